@@ -1,0 +1,4 @@
+pub mod Bits
+pub mod Graph
+pub mod Lists
+pub mod Reply

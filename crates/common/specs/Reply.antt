@@ -1,0 +1,30 @@
+-- Replies and refusals. A refusal is one number of document 01's table and one place.
+use Prim.Native.Nat.{ℕ}
+use mathlib.Core.List.{List, [], _∷_}
+use mathlib.Core.Bool.{Bool, cond}
+
+pub data Reply (A : Type 0) : Type 0 where
+  given : A → Reply A
+  refused : ℕ → ℕ → Reply A
+
+-- a cause: its number, its place, and whether it applies
+pub record Fault : Type 0 where
+  pub number : ℕ
+  pub place : ℕ
+  pub applies : Bool
+
+abbrev pub fault : ℕ → ℕ → Bool → Fault
+fault number place applies = record { number = number; place = place; applies = applies }
+
+module _ {A : Type 0} where
+  -- the refusal by the first cause that applies, or else the reply
+  unfoldable pub unless : List Fault → Reply A → Reply A
+  unless [] r = r
+  unless (f ∷ fs) r =
+      let later = unless fs r in
+      cond (f .applies) (refused (f .number) (f .place)) later
+
+  -- go on with what is given; a refusal stays
+  unfoldable pub andThen : {B : Type 0} → Reply A → (A → Reply B) → Reply B
+  andThen (given a) f = f a
+  andThen (refused number place) f = refused number place

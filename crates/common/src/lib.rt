@@ -1,0 +1,1 @@
+// Lists, bits and graphs: what the definitions of every layer are written with. No code.
