@@ -1,7 +1,8 @@
 -- Replies and refusals. A refusal is one number of document 01's table and one place.
 use Prim.Native.Nat.{ℕ}
 use mathlib.Core.List.{List, [], _∷_}
-use mathlib.Core.Bool.{Bool, cond}
+use mathlib.Core.Bool.{Bool, cond, not}
+use Rattle.common.specs.Lists.{all}
 
 pub data Reply (A : Type 0) : Type 0 where
   given : A → Reply A
@@ -15,6 +16,10 @@ pub record Fault : Type 0 where
 
 abbrev pub fault : ℕ → ℕ → Bool → Fault
 fault number place applies = record { number = number; place = place; applies = applies }
+
+-- none of the causes applies
+unfoldable pub clear : List Fault → Bool
+clear faults = all (λ f. not (f .applies)) faults
 
 module _ {A : Type 0} where
   -- the refusal by the first cause that applies, or else the reply

@@ -1,0 +1,5 @@
+pub mod Bits
+pub mod Bools
+pub mod Graph
+pub mod Lists
+pub mod Tests
