@@ -10,7 +10,8 @@ use lib.Pow.{pow-pos, pow-mono}
 use Rattle.common.specs.Bits.{bit, beyond}
 use Rattle.common.specs.Lists.{all, upTo}
 use Rattle.common.proofs.Bools.{by-cases, true-false, not-of-true}
-use Rattle.common.proofs.Lists.{all-at, upTo-mem}
+use Rattle.common.proofs.Lists.{all-at}
+use Rattle.common.proofs.Members.{upTo-mem}
 
 -- no mode at or past n: the number is below 2 ^ n
 pub beyond-small : (n mask : ℕ) → beyond n mask ≡ false → mask < 2 ^ n

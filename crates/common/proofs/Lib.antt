@@ -2,4 +2,11 @@ pub mod Bits
 pub mod Bools
 pub mod Graph
 pub mod Lists
+pub mod Members
+pub mod Pad
+pub mod Places
+pub mod Reply
+pub mod Search
+pub mod Snoc
+pub mod Sums
 pub mod Tests

@@ -1,0 +1,92 @@
+-- Laws of sums, products and the greatest.
+-- Assumes nothing.
+use Prim.Native.Nat.{ℕ, suc, _+_, _*_, _≤_, _<_, zero-le}
+use mathlib.Core.Path.{_≡_, refl, sym, ap, _∙_}
+use mathlib.Core.List.{List, [], _∷_, _++_, map, List·Memᴰ, List·Memᴰ·head as head, List·Memᴰ·tail as tail, Memᴰ·cast}
+use mathlib.Core.List.{append-nil, flatMap, append-assoc}
+use mathlib.Core.Bool.{Bool}
+use native.Mathlib.Nat.{mul-pos, mul-assoc, suc-mul}
+use native.Mathlib.Omega.{arith}
+use borrow.Author.Tests.{leb-true, leb-false}
+use lib.Dec.{leb}
+use lib.ListN.{length, length-append}
+use Rattle.common.specs.Lists.{upTo, filter, sum, product, maximum}
+use Rattle.common.proofs.Bools.{by-cases}
+
+-- Sums, products, the greatest
+
+pub sum-append : (xs ys : List ℕ) → sum (xs ++ ys) ≡ sum xs + sum ys
+unfolding sum
+sum-append [] ys = omega arith
+sum-append (x ∷ xs) ys = omega (arith, sum-append xs ys)
+
+pub sum-above : {x : ℕ} {xs : List ℕ} → List·Memᴰ x xs → x ≤ sum xs
+unfolding sum
+sum-above (head e) = omega arith
+sum-above (tail m) = omega (arith, sum-above m)
+
+pub product-append : (xs ys : List ℕ) → product (xs ++ ys) ≡ product xs * product ys
+unfolding product
+product-append [] ys = omega arith
+product-append (x ∷ xs) ys = ap (_*_ x) (product-append xs ys) ∙ sym (mul-assoc x (product xs) (product ys))
+
+pub product-positive : (xs : List ℕ) → ((x : ℕ) → List·Memᴰ x xs → 0 < x) → 0 < product xs
+unfolding product
+product-positive [] h = omega arith
+product-positive (x ∷ xs) h = mul-pos (h x (head refl)) (product-positive xs (λ y m. h y (tail m)))
+
+pub maximum-above : {x : ℕ} {xs : List ℕ} → List·Memᴰ x xs → x ≤ maximum xs
+unfolding maximum
+maximum-above (head e) = omega arith
+maximum-above (tail m) = omega (arith, maximum-above m)
+
+pub maximum-is-least : (xs : List ℕ) (b : ℕ) → ((x : ℕ) → List·Memᴰ x xs → x ≤ b) → maximum xs ≤ b
+unfolding maximum
+maximum-is-least [] b h = zero-le
+maximum-is-least (x ∷ xs) b h = omega (arith, h x (head refl), maximum-is-least xs b (λ y m. h y (tail m)))
+
+-- the greatest of some numbers is one of them
+pub maximum-mem : (x : ℕ) (xs : List ℕ) → List·Memᴰ (maximum (x ∷ xs)) (x ∷ xs)
+unfolding maximum
+maximum-mem x [] = head {x = x} (omega arith)
+maximum-mem x (y ∷ ys) =
+    by-cases (leb x (maximum (y ∷ ys)))
+    (λ t. tail (Memᴰ·cast (omega (arith, leb-true)) (maximum-mem y ys)))
+    (λ f. head {x = x} (omega (arith, leb-false)))
+
+module _ {A : Type 0} (f : A → ℕ) where
+  pub sum-mono : (g : A → ℕ) (xs : List A) → ((x : A) → List·Memᴰ x xs → f x ≤ g x) → sum (map f xs) ≤ sum (map g xs)
+  unfolding sum
+  sum-mono g [] h = zero-le
+  sum-mono g (x ∷ xs) h = omega (arith, h x (head refl), sum-mono g xs (λ y m. h y (tail m)))
+
+  pub sum-filter : (p : A → Bool) (xs : List A) → sum (map f (filter p xs)) ≤ sum (map f xs)
+  unfolding sum filter
+  sum-filter p [] = zero-le
+  sum-filter p (x ∷ xs) =
+      by-cases (p x) (λ t. rw t (omega (arith, sum-filter p xs))) (λ k. rw k (omega (arith, sum-filter p xs)))
+
+-- the sum of numbers that are all c
+pub sum-constant : {A : Type 0} (f : A → ℕ) (c : ℕ) (xs : List A) → ((x : A) → List·Memᴰ x xs → f x ≡ c)
+    → sum (map f xs) ≡ length xs * c
+unfolding sum
+sum-constant f c [] h = omega arith
+sum-constant f c (x ∷ xs) h =
+    omega (arith, suc-mul (length xs) c, h x (head refl), sum-constant f c xs (λ y m. h y (tail m)))
+
+-- Lists made of a list for each member
+
+module _ {A B : Type 0} (f : A → List B) where
+  pub flatMap-append : (xs ys : List A) → flatMap f (xs ++ ys) ≡ flatMap f xs ++ flatMap f ys
+  unfolding flatMap
+  flatMap-append [] ys = refl
+  flatMap-append (x ∷ xs) ys = ap (λ l. f x ++ l) (flatMap-append xs ys) ∙ sym (append-assoc (f x) _ _)
+
+  pub length-flatMap : (xs : List A) → length (flatMap f xs) ≡ sum (map (λ x. length (f x)) xs)
+  unfolding flatMap sum
+  length-flatMap [] = refl
+  length-flatMap (x ∷ xs) = length-append (f x) (flatMap f xs) ∙ ap (λ n. length (f x) + n) (length-flatMap xs)
+
+pub flatMap-upTo-suc : {B : Type 0} (f : ℕ → List B) (n : ℕ) → flatMap f (upTo (suc n)) ≡ flatMap f (upTo n) ++ f n
+unfolding upTo flatMap
+flatMap-upTo-suc f n = flatMap-append f (upTo n) (n ∷ []) ∙ ap (λ l. flatMap f (upTo n) ++ l) (append-nil (f n))
