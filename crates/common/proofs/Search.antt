@@ -3,11 +3,11 @@
 use Prim.Native.Nat.{ℕ, zero, suc, _≤_, _<_, zero-le, suc-le-suc}
 use mathlib.Core.Path.{_≡_, refl, sym, ap, _∙_}
 use mathlib.Core.List.{List, [], _∷_, List·Memᴰ, List·Memᴰ·head as head, List·Memᴰ·tail as tail}
-use mathlib.Core.Bool.{Bool, true, false}
+use mathlib.Core.Bool.{Bool, true, false, _&&_}
 use native.Mathlib.Nat.{not-suc-le-zero}
 use native.Mathlib.Omega.{arith}
 use lib.ListN.{length, getD, List·getD-eq-default}
-use Rattle.common.specs.Lists.{upTo, any, position, find}
+use Rattle.common.specs.Lists.{upTo, any, filter, position, find}
 use Rattle.common.proofs.Bools.{by-cases, true-false, false-of-not-true, or-false-left, or-false-right}
 use Rattle.common.proofs.Lists.{any-some}
 use Rattle.common.proofs.Members.{mem-getD, mem-index, upTo-below, length-upTo, getD-upTo}
@@ -111,3 +111,13 @@ module _ (p : ℕ → Bool) (n d : ℕ) (some : any p (upTo n) ≡ true) where
       let e : find p (upTo n) d ≡ position p (upTo n) = find-first p (upTo n) d ∙ getD-upTo d l in
       let b : j < n = omega arith in
       ap p (sym (getD-upTo d b)) ∙ position-before p (upTo n) j d (omega arith)
+
+-- the first of those that
+pub find-filter : {A : Type 0} (p q : A → Bool) (xs : List A) (d : A)
+    → find p (filter q xs) d ≡ find (λ x. q x && p x) xs d
+unfolding find filter
+find-filter p q [] d = refl
+find-filter p q (x ∷ xs) d =
+    by-cases (q x)
+    (λ t. rw t (by-cases (p x) (λ u. rw u) (λ u. rw u (find-filter p q xs d))))
+    (λ f. rw f (find-filter p q xs d))

@@ -5,7 +5,7 @@ use mathlib.Core.Path.{_≡_, refl, sym, ap, _∙_}
 use mathlib.Core.List.{List, [], _∷_, _++_, map, List·Memᴰ, List·Memᴰ·head as head, List·Memᴰ·tail as tail, Memᴰ·cast}
 use mathlib.Core.List.{append-nil, flatMap, append-assoc}
 use mathlib.Core.Bool.{Bool}
-use native.Mathlib.Nat.{mul-pos, mul-assoc, suc-mul}
+use native.Mathlib.Nat.{not-suc-le-zero, mul-pos, mul-assoc, suc-mul}
 use native.Mathlib.Omega.{arith}
 use borrow.Author.Tests.{leb-true, leb-false}
 use lib.Dec.{leb}
@@ -53,6 +53,10 @@ maximum-mem x (y ∷ ys) =
     by-cases (leb x (maximum (y ∷ ys)))
     (λ t. tail (Memᴰ·cast (omega (arith, leb-true)) (maximum-mem y ys)))
     (λ f. head {x = x} (omega (arith, leb-false)))
+
+pub maximum-some : (xs : List ℕ) → 0 < length xs → List·Memᴰ (maximum xs) xs
+maximum-some [] h = absurd (not-suc-le-zero h)
+maximum-some (x ∷ xs) h = maximum-mem x xs
 
 module _ {A : Type 0} (f : A → ℕ) where
   pub sum-mono : (g : A → ℕ) (xs : List A) → ((x : A) → List·Memᴰ x xs → f x ≤ g x) → sum (map f xs) ≤ sum (map g xs)

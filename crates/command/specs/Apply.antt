@@ -1,0 +1,53 @@
+-- Applying a command: by the move that acts, or none.
+use Prim.Native.Nat.{ℕ}
+use mathlib.Core.List.{List}
+use mathlib.Core.Bool.{Bool, cond, _&&_}
+use lib.ListN.{set}
+use lib.Dec.{eqb, ltb}
+use Rattle.common.specs.Lists.{upTo, all, find}
+use Rattle.common.specs.Bits.{bit}
+use Rattle.common.specs.Reply.{Reply, given, refused, unless, andThen}
+use Rattle.sheet.specs.Model.{Move, Model, moveCount, moveAt}
+use Rattle.sheet.specs.Parse.{Parsed, parse}
+use Rattle.command.specs.State.{modeOf, stateFaults}
+
+-- no move
+abbrev pub noneActs : ℕ
+noneActs = 255
+
+module _ (m : Model) (state : List ℕ) (machine command : ℕ) where
+  -- move v is of that machine, from its present mode, with that byte, and all its needs hold
+  unfoldable pub acts : ℕ → Bool
+  acts v =
+      eqb (moveAt m v .machine) machine
+      && eqb (moveAt m v .from) (modeOf state machine)
+      && eqb (moveAt m v .command) command
+      && all (λ g. bit (g .mask) (modeOf state (g .machine))) (moveAt m v .guards)
+
+  unfoldable pub actingMove : ℕ
+  actingMove = find acts (upTo (moveCount m)) noneActs
+
+  -- that one machine takes the to mode; otherwise nothing changes
+  unfoldable pub stateBy : List ℕ
+  stateBy = cond (eqb actingMove noneActs) state (set state machine (moveAt m actingMove .to))
+
+-- the move that acted, 255 for none, and the state afterwards
+pub record Applied : Type 0 where
+  pub move : ℕ
+  pub state : List ℕ
+
+-- whether a machine changed
+abbrev pub changed : Applied → Bool
+changed a = ltb (a .move) noneActs
+
+-- the reply of applying a command: tests 1 to 8, then 13
+unfoldable pub applyReply : List ℕ → List ℕ → ℕ → ℕ → Reply Applied
+applyReply sheet state machine command =
+    andThen (parse sheet) (λ d.
+    unless (stateFaults (d .model) state)
+    (given (record { move = actingMove (d .model) state machine command; state = stateBy (d .model) state machine command })))
+
+-- what applying leaves in the lent state
+abbrev pub stateAfter : Reply Applied → List ℕ → List ℕ
+stateAfter (given a) state = a .state
+stateAfter (refused number place) state = state

@@ -1,0 +1,80 @@
+-- Demand 3, whole: one claim about every list of calls.
+use Prim.Native.Nat.{ℕ, _≤_, _<_}
+use mathlib.Core.Path.{_≡_}
+use mathlib.Core.Logic.{_↔_}
+use mathlib.Core.List.{List, [], _∷_, _++_}
+use mathlib.Core.Bool.{true}
+use lib.ListN.{getD, set}
+use Rattle.common.specs.Reply.{Reply, given, clear}
+use Rattle.sheet.specs.Model.{Model, moveCount, moveAt}
+use Rattle.sheet.specs.Parse.{Parsed, parse}
+use Rattle.plan.specs.Groups.{groupCount}
+use Rattle.plan.specs.Planning.{planReply}
+use Rattle.plan.specs.Reading.{groupsIn, boundIn}
+use Rattle.command.specs.State.{modeOf}
+use Rattle.command.specs.Goal.{goalMasks, met}
+use Rattle.command.specs.Next.{Next, done, command, nextReply, goalRefusals}
+use Rattle.command.specs.Apply.{Applied, acts, applyReply}
+use Rattle.command.specs.Run.{Call, ask, apply, Pending, some, Situation, begins, after, afterAll, Run}
+
+module _ (sheet plan goal : List ℕ) (m : Model) where
+  -- "as wished": group k is met
+  abbrev pub AsWished : List ℕ → ℕ → Type 0
+  AsWished state k = met (groupsIn m plan) (goalMasks m goal) state k ≡ true
+
+  -- all groups from g upward are as wished
+  abbrev pub AsWishedFrom : List ℕ → ℕ → Type 0
+  AsWishedFrom state g = (k : ℕ) → g ≤ k → k < groupCount (groupsIn m plan) → AsWished state k
+
+  -- "reached": every group is as wished
+  abbrev pub Reached : List ℕ → Type 0
+  Reached state = AsWishedFrom state 0
+
+  -- what asking replies in a situation
+  pub record Asked (s : Situation) : Type 0 where
+    -- no asking refuses
+    pub answered : (r : Next) × (nextReply sheet plan (s .state) goal ≡ given r)
+    -- done exactly when every group is as wished, and a command otherwise
+    pub done-exactly : (nextReply sheet plan (s .state) goal ≡ given done) ↔ Reached (s .state)
+    -- every command finds its needs met: a move of that machine and byte acts
+    pub finds-needs : (i c : ℕ) → nextReply sheet plan (s .state) goal ≡ given (command i c)
+        → (v : ℕ) × (v < moveCount m) × (acts m (s .state) i c v ≡ true)
+    -- and is given only while fewer have been applied than the number written in the plan
+    pub within-bound : (i c : ℕ) → nextReply sheet plan (s .state) goal ≡ given (command i c) → s .applied < boundIn m plan
+
+  -- what applying the pending command does
+  pub record Moved (s : Situation) : Type 0 where
+    pub machine : ℕ
+    pub byte : ℕ
+    pub pends : s .pending ≡ some machine byte
+    pub move : ℕ
+    pub present : move < moveCount m
+    -- no applying refuses, and the machine has moved: from the move's from mode to its to mode, which differs
+    pub applies : applyReply sheet (s .state) machine byte
+        ≡ given (record { move = move; state = set (s .state) machine (moveAt m move .to) })
+    pub was : modeOf (s .state) machine ≡ moveAt m move .from
+    pub differs : moveAt m move .from ≡ moveAt m move .to → ⊥
+
+  -- the promise about a list of calls from a situation
+  pub record Promise (start : Situation) (calls : List Call) : Type 0 where
+    pub asking : (before later : List Call) → calls ≡ before ++ (ask ∷ later) → Asked (afterAll sheet plan goal start before)
+    pub applying : (before later : List Call) → calls ≡ before ++ (apply ∷ later) → Moved (afterAll sheet plan goal start before)
+    -- no more commands than the bound, and by then the goal is reached
+    pub within : afterAll sheet plan goal start calls .applied ≤ boundIn m plan
+    pub arrives : (before later : List Call) → calls ≡ before ++ later
+        → boundIn m plan ≤ afterAll sheet plan goal start before .applied → Reached (afterAll sheet plan goal start before .state)
+    -- once all groups from g upward are as wished, none of them leaves its wish at any later call
+    pub stays : (before between later : List Call) → calls ≡ before ++ (between ++ later) → (g : ℕ)
+        → AsWishedFrom (afterAll sheet plan goal start before .state) g
+        → AsWishedFrom (afterAll sheet plan goal start (before ++ between) .state) g
+
+-- From any sheet that planning accepts, the plan it wrote, any state and goal that pass 13 and 14, the goal covered:
+-- every list of calls that is a run keeps the promise.
+abbrev pub Arrival : Type 0
+Arrival =
+    (sheet plan state goal : List ℕ) (buffer scratch : ℕ) (d : Parsed) (calls : List Call)
+    → parse sheet ≡ given d
+    → planReply sheet buffer scratch ≡ given plan
+    → clear (goalRefusals (d .model) plan state goal) ≡ true
+    → Run sheet plan goal (begins state) calls
+    → Promise sheet plan goal (d .model) (begins state) calls

@@ -1,0 +1,42 @@
+-- "Wishes, and which are covered": what a goal ("wish") allows each machine, and when a group is met.
+-- A goal is a mask for each machine. It is made of the caller's bytes, or of a move's needs.
+use Prim.Native.Nat.{ℕ}
+use mathlib.Core.List.{List, map}
+use mathlib.Core.Bool.{Bool, cond}
+use lib.ListN.{length, getD}
+use lib.Dec.{eqb, ltb}
+use Rattle.common.specs.Lists.{upTo, all, find}
+use Rattle.common.specs.Bits.{bit}
+use Rattle.sheet.specs.Record.{byte}
+use Rattle.sheet.specs.Model.{Move, Model, machineCount, guard}
+use Rattle.plan.specs.Groups.{Grouping, groupOf, members}
+use Rattle.plan.specs.Modes.{modeIn}
+use Rattle.command.specs.State.{modeOf}
+
+abbrev pub Masks : Type 0
+Masks = List ℕ
+
+-- any mode of at most 8
+abbrev pub anyMode : ℕ
+anyMode = 255
+
+abbrev pub allows : Masks → ℕ → ℕ → Bool
+allows masks i mode = bit (getD masks i anyMode) mode
+
+-- the caller's goal: a machine past its end may be in any mode
+unfoldable pub goalMasks : Model → List ℕ → Masks
+goalMasks m goal = map (λ i. cond (ltb i (length goal)) (byte goal i) anyMode) (upTo (machineCount m))
+
+-- the needs of a move of group k on other groups, taken as a goal: other machines may be in any mode
+unfoldable pub guardMasks : Model → Grouping → ℕ → Move → Masks
+guardMasks m groups k v =
+    map (λ i. cond (eqb (groupOf groups i) k) anyMode (find (λ g. eqb (g .machine) i) (v .guards) (guard i anyMode) .mask))
+    (upTo (machineCount m))
+
+-- group k is met in a state: its mode is allowed for all its machines
+unfoldable pub met : Grouping → Masks → List ℕ → ℕ → Bool
+met groups masks state k = all (λ i. allows masks i (modeOf state i)) (members groups k)
+
+-- group mode q of group k is allowed
+unfoldable pub allowed : Model → Grouping → Masks → ℕ → ℕ → Bool
+allowed m groups masks k q = all (λ i. allows masks i (modeIn m groups k q i)) (members groups k)

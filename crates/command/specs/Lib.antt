@@ -1,0 +1,11 @@
+pub mod Ancestors
+pub mod Apply
+pub mod Arrival
+pub mod Attainable
+pub mod Cases
+pub mod Covered
+pub mod Goal
+pub mod Next
+pub mod Run
+pub mod State
+pub mod Walk

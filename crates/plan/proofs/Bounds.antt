@@ -1,0 +1,104 @@
+-- The bound: L is the largest distance of a group and is reached; the costs follow document 01's rule.
+-- Assumes nothing.
+use Prim.Native.Nat.{ℕ, _≤_, _<_}
+use mathlib.Core.Path.{_≡_, sym, subst, _∙_}
+use mathlib.Core.List.{List, [], map, Memᴰ·of-map}
+use mathlib.Core.Bool.{true, false, cond}
+use native.Mathlib.Omega.{arith}
+use lib.ListN.{length, getD}
+use Rattle.common.specs.Lists.{upTo, maximum}
+use Rattle.common.specs.Graph.{Matrix, between, connected}
+use Rattle.common.proofs.Bools.{by-cases, cond-true, cond-false}
+use Rattle.common.proofs.Members.{upTo-below, length-map-upTo}
+use Rattle.common.proofs.Sums.{maximum-some}
+use Rattle.sheet.specs.Model.{Model, machineCount}
+use Rattle.sheet.specs.Valid.{Valid}
+use Rattle.plan.specs.Groups.{Grouping, groupCount}
+use Rattle.plan.specs.Modes.{size}
+use Rattle.plan.specs.Reading.{needsFirst}
+use Rattle.plan.specs.Bound.{longest, boundOf}
+use Rattle.plan.specs.Meaning.{ShortestRoute, BoundRight}
+use Rattle.plan.proofs.Modes.{size-positive}
+use Rattle.plan.proofs.Routes.{allRoutes}
+use Rattle.plan.proofs.Distances.{routes-length, route-of-between, between-at-most, between-below, between-longest}
+use Rattle.plan.proofs.Distances.{between-self, connected-size}
+use Rattle.plan.proofs.Costs.{costOf, cost-rule, bound-sum}
+use Rattle.plan.proofs.OwnLaws.{longestOf}
+
+module _ (d : Matrix) where
+  abbrev cell : ℕ → ℕ → ℕ
+  cell p q = cond (connected d p q) (between d p q) 0
+
+  abbrev row : ℕ → ℕ
+  row p = maximum (map (cell p) (upTo (length d)))
+
+  -- two nodes as far apart as any that are connected; where all distances are 0, some two
+  pub record Farthest : Type 0 where
+    pub from : ℕ
+    pub to : ℕ
+    pub from-below : from < length d
+    pub to-below : to < length d
+    pub far : cell from to ≡ longest d
+
+  pub farthest : 0 < length d → Farthest
+  unfolding longest
+  farthest h =
+      let n = length d in
+      let x = Memᴰ·of-map row (upTo n) (maximum-some (map row (upTo n)) (rw length-map-upTo h)) in
+      let y = Memᴰ·of-map (cell (x .0)) (upTo n) (maximum-some (map (cell (x .0)) (upTo n)) (rw length-map-upTo h)) in
+      record {
+        from = x .0;
+        to = y .0;
+        from-below = upTo-below n (x .1);
+        to-below = upTo-below n (y .1);
+        far = y .2 ∙ x .2;
+      }
+
+module _ (m : Model) (valid : Valid m) (groups : Grouping) (all-machines : length groups ≡ machineCount m)
+    (first : needsFirst m groups ≡ true) where
+  module _ {k : ℕ} (h : k < groupCount groups) where
+    abbrev matrix : Matrix
+    matrix = getD (allRoutes m groups) k []
+
+    pub shortest-between : (p q : ℕ) → q < size m groups k → between matrix p q < size m groups k
+        → ShortestRoute m groups k (between matrix p q) p q
+    shortest-between p q hq l =
+        (route-of-between m groups first h p q l, λ c r. between-at-most m groups first h p q hq r)
+
+    pub none-longer : (d p q : ℕ) → p < size m groups k → q < size m groups k → ShortestRoute m groups k d p q
+        → d ≤ longest matrix
+    none-longer d p q hp hq s =
+        let l = between-below m groups first h p q hq (s .0) in
+        omega (arith, s .1 _ (route-of-between m groups first h p q l), between-longest m groups first h p q hp hq l)
+
+    pub one-as-long : (p : ℕ) × (q : ℕ) × (p < size m groups k) × (q < size m groups k)
+        × ShortestRoute m groups k (longest matrix) p q
+    one-as-long =
+        let n = routes-length m groups first h in
+        let o = size-positive m valid groups all-machines k in
+        let f = farthest matrix (rw n o) in
+        by-cases (connected matrix (f .from) (f .to))
+        (λ t.
+        let e : between matrix (f .from) (f .to) ≡ longest matrix = sym (cond-true _ 0 t) ∙ f .far in
+        let q = rw n at (f .to-below) in (
+          f .from,
+          f .to,
+          rw n at (f .from-below),
+          q,
+          rw (← e) (shortest-between (f .from) (f .to) q (connected-size m groups first h (f .from) (f .to) t)),
+        ))
+        (λ c.
+        let e : 0 ≡ longest matrix = sym (cond-false (between matrix (f .from) (f .to)) 0 c) ∙ f .far in
+        let z = between-self m groups first h 0 o in
+        (0, 0, o, o, subst (λ n. ShortestRoute m groups k n 0 0) (z ∙ e) (shortest-between 0 0 o (rw z o))))
+
+  pub bound-right : (bound : ℕ) → bound ≡ boundOf m groups (allRoutes m groups) → BoundRight m groups bound
+  bound-right bound e =
+      record {
+        longest = longestOf m groups;
+        cost = costOf m groups (allRoutes m groups);
+        none-longer = λ k d p q h. none-longer h d p q;
+        one-as-long = λ k h. one-as-long h;
+        cost-is = λ k h. cost-rule m groups (allRoutes m groups) first h;
+        sum-of-costs = e ∙ bound-sum m groups (allRoutes m groups);
+      }

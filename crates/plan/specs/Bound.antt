@@ -1,0 +1,31 @@
+-- "The plan": the cost of each group and the bound. Exact numbers, however large.
+use Prim.Native.Nat.{ℕ, zero, suc, _+_, _*_}
+use mathlib.Core.List.{List, [], _∷_, _++_, map}
+use mathlib.Core.Bool.{cond}
+use lib.ListN.{length, getD}
+use Rattle.common.specs.Lists.{upTo, sum, maximum}
+use Rattle.common.specs.Graph.{Matrix, between, connected}
+use Rattle.sheet.specs.Model.{Model}
+use Rattle.plan.specs.Groups.{Grouping, groupCount, movesOf, namedOutside}
+
+-- L: the largest distance in a group, routes only
+unfoldable pub longest : Matrix → ℕ
+longest d =
+    maximum (map (λ p. maximum (map (λ q. cond (connected d p q) (between d p q) 0) (upTo (length d)))) (upTo (length d)))
+
+module _ (m : Model) (groups : Grouping) (routes : List Matrix) where
+  -- the cost of group k, given those of the lower groups: L × (1 + the costs of the outside groups its moves name)
+  unfoldable pub costIn : List ℕ → ℕ → ℕ
+  costIn lower k =
+      longest (getD routes k []) * (1 + sum (map (λ a. getD lower a 0) (namedOutside m groups k (movesOf m groups k))))
+
+  -- the costs of the first n groups
+  unfoldable pub costsUpto : ℕ → List ℕ
+  costsUpto zero = []
+  costsUpto (suc k) =
+      let lower = costsUpto k in
+      lower ++ (costIn lower k ∷ [])
+
+  -- the sum of all costs
+  unfoldable pub boundOf : ℕ
+  boundOf = sum (costsUpto (groupCount groups))

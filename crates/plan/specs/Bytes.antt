@@ -1,0 +1,47 @@
+-- "The plan": its records and its length.
+use Prim.Native.Nat.{ℕ, _+_, _*_, _/_, _%_}
+use mathlib.Core.List.{List, [], _∷_, _++_, map, flatMap}
+use lib.ListN.{length, getD}
+use Rattle.common.specs.Lists.{upTo, sum}
+use Rattle.common.specs.Graph.{Matrix}
+use Rattle.sheet.specs.Model.{Model, machineCount}
+use Rattle.plan.specs.Groups.{Grouping, groupCount}
+use Rattle.plan.specs.Modes.{size}
+use Rattle.plan.specs.Routes.{usableMoves}
+use Rattle.plan.specs.Table.{tableOf}
+use Rattle.plan.specs.Bound.{boundOf}
+
+-- two bytes, and four, little-endian
+unfoldable pub twoBytes : ℕ → List ℕ
+twoBytes n = n % 256 ∷ n / 256 % 256 ∷ []
+
+unfoldable pub fourBytes : ℕ → List ℕ
+fourBytes n = twoBytes (n % 65536) ++ twoBytes (n / 65536)
+
+-- a record: body length, kind, body
+unfoldable pub recordOf : ℕ → List ℕ → List ℕ
+recordOf kind body = twoBytes (length body) ++ twoBytes kind ++ body
+
+module _ (m : Model) (groups : Grouping) where
+  -- the bytes of group k's table, given every group's distances
+  unfoldable pub tableIn : List Matrix → ℕ → List ℕ
+  tableIn routes k = tableOf m groups k (usableMoves m groups routes k) (getD routes k [])
+
+  -- kind 16, then kind 17 for each group in order, then kind 18, then kind 3
+  unfoldable pub bytesOf : List Matrix → List ℕ
+  bytesOf routes =
+      recordOf 16 groups
+      ++ flatMap (λ k. recordOf 17 (tableIn routes k)) (upTo (groupCount groups))
+      ++ recordOf 18 (fourBytes (boundOf m groups routes))
+      ++ recordOf 3 []
+
+  -- the length of a group's table
+  unfoldable pub tableLength : ℕ → ℕ
+  tableLength k = 2 * (size m groups k * size m groups k)
+
+  -- where the record of group k begins, and for the number of groups the record behind the last
+  unfoldable pub tableAt : ℕ → ℕ
+  tableAt k = 4 + machineCount m + sum (map (λ a. 4 + tableLength a) (upTo k))
+
+  unfoldable pub planLength : ℕ
+  planLength = tableAt (groupCount groups) + 12

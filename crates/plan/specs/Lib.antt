@@ -1,0 +1,12 @@
+pub mod Bound
+pub mod Bytes
+pub mod Groups
+pub mod Laws
+pub mod Meaning
+pub mod Modes
+pub mod Needs
+pub mod Planning
+pub mod Reading
+pub mod Routes
+pub mod Table
+pub mod Usable

@@ -1,0 +1,26 @@
+-- "Groups and their modes": which machines a machine needs, and which it reaches through others.
+use Prim.Native.Nat.{ℕ, _<_}
+use mathlib.Core.Path.{_≡_}
+use mathlib.Core.List.{List, map}
+use mathlib.Core.Bool.{Bool, true, _&&_}
+use lib.Dec.{eqb}
+use Rattle.common.specs.Lists.{upTo, any, filter}
+use Rattle.common.specs.Graph.{Graph}
+use Rattle.sheet.specs.Model.{Move, Model, machineCount, moveCount, moveAt}
+
+-- move v names machine j
+unfoldable pub names : Move → ℕ → Bool
+names v j = any (λ g. eqb (g .machine) j) (v .guards)
+
+-- machine i needs j: a move of i names j
+unfoldable pub needs : Model → ℕ → ℕ → Bool
+needs m i j = any (λ v. eqb (v .machine) i && names v j) (m .moves)
+
+-- for each machine, those that it needs
+unfoldable pub needGraph : Model → Graph
+needGraph m = map (λ i. filter (needs m i) (upTo (machineCount m))) (upTo (machineCount m))
+
+-- What it means: machine i reaches j, directly or through others, or is j.
+pub data Reaches (m : Model) : ℕ → ℕ → Type 0 where
+  itself : {i : ℕ} → Reaches m i i
+  through : {i j : ℕ} (k : ℕ) → k < machineCount m → needs m i k ≡ true → Reaches m k j → Reaches m i j

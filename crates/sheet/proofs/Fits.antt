@@ -1,0 +1,137 @@
+-- What passes the causes 5 to 8 is a valid machine or a valid move of the model.
+-- Assumes nothing.
+use Prim.Native.Nat.{ℕ, suc, _-_, _%_, _≤_, _<_}
+use mathlib.Core.Path.{_≡_}
+use mathlib.Core.List.{List}
+use mathlib.Core.Bool.{Bool, false, _&&_}
+use native.Mathlib.Numerals.{sub-one}
+use native.Mathlib.Omega.{arith}
+use borrow.Author.Tests.{ltb-false, leb-true, leb-false, eqb-true, eqb-false, not-false, lt-ltb}
+use lib.Dec.{eqb, ltb, leb}
+use lib.ListN.{length, List·getD-eq-default}
+use Rattle.common.specs.Lists.{any}
+use Rattle.common.proofs.Bools.{by-cases, or-false-left, or-false-right}
+use Rattle.common.proofs.Lists.{any-none}
+use Rattle.common.proofs.Members.{upTo-mem}
+use Rattle.common.proofs.Reply.{Clear}
+use Rattle.sheet.specs.Record.{byte}
+use Rattle.sheet.specs.Model.{Move, Model, machineCount, moveCount, modeCount, guardAt, moveOf}
+use Rattle.sheet.specs.Faults.{wrongMoveLength, badMachine, badMove, badGuard, badGuards, sameMove, badCommand}
+use Rattle.sheet.specs.Faults.{machineFaults, moveFaults}
+use Rattle.sheet.specs.Valid.{ValidGuard, ValidMove, ValidMachine}
+use Rattle.sheet.proofs.Guards.{guard-count}
+
+ruleset parts = (or-false-left, or-false-right)
+
+pub machine-fits : (modes live : ℕ) → badMachine modes live ≡ false → ValidMachine modes live
+unfolding badMachine
+machine-fits modes live h =
+    let a : eqb modes 0 ≡ false = search parts in
+    let b : ltb 8 modes ≡ false = search parts in
+    record {
+      has-mode = omega (arith, eqb-false modes 0 a);
+      few-modes = omega (arith, ltb-false);
+      has-live = eqb-false _ _ (search parts);
+      within = search parts;
+    }
+
+-- a machine that has a mode is present
+pub has-modes : (m : Model) (i : ℕ) → 0 < modeCount m i → i < machineCount m
+has-modes m i h =
+    by-cases (leb (machineCount m) i)
+    (λ t. omega (arith, List·getD-eq-default (m .modes) 0 (leb-true (machineCount m) i t)))
+    (λ f. leb-false _ _ f)
+
+module _ (m : Model) (v : Move) (few : length (v .guards) ≤ 8) (given : v .command ≡ 0 → ⊥)
+    (fine : badMove (m .modes) (m .live) v ≡ false) (met : badGuards (m .modes) v ≡ false) where
+  pub no-guard-bad : (n : ℕ) → n < length (v .guards) → badGuard (m .modes) v n ≡ false
+  unfolding badGuards
+  no-guard-bad n h = any-none (badGuard (m .modes) v) met (upTo-mem h)
+
+  pub guard-fits : (n : ℕ) → n < length (v .guards) → ValidGuard m v (guardAt v n)
+  unfolding badGuard
+  guard-fits n h =
+      let b = no-guard-bad n h in
+      let a : eqb (modeCount m (guardAt v n .machine)) 0 ≡ false = search parts in
+      record {
+        present = has-modes m _ (omega (arith, eqb-false (modeCount m (guardAt v n .machine)) 0 a));
+        foreign = eqb-false _ _ (search parts);
+        nonempty = eqb-false _ _ (search parts);
+        within = search parts;
+      }
+
+  pub guard-rises : (n : ℕ) → suc n < length (v .guards) → guardAt v n .machine < guardAt v (suc n) .machine
+  unfolding badGuard
+  guard-rises n h =
+      let b = no-guard-bad (suc n) h in
+      let above : Bool = leb (guardAt v (suc n) .machine) (guardAt v (suc n - 1) .machine) in
+      let a : ltb 0 (suc n) && above ≡ false = search parts in
+      leb-false _ _ (rw (lt-ltb 0 (suc n) (omega arith), sub-one) at a)
+
+  pub move-fits : ValidMove m v
+  unfolding badMove
+  move-fits =
+      let a : leb (modeCount m (v .machine)) (v .from) ≡ false = search parts in
+      let b : leb (modeCount m (v .machine)) (v .to) ≡ false = search parts in
+      record {
+        present = has-modes m _ (omega (arith, leb-false));
+        from-present = leb-false _ _ a;
+        to-present = leb-false _ _ b;
+        moves-on = eqb-false _ _ (search parts);
+        from-live = not-false _ (search parts);
+        to-live = not-false _ (search parts);
+        command-given = given;
+        few-guards = few;
+        guards-valid = guard-fits;
+        guards-rise = guard-rises;
+      }
+
+-- what a machine record that passes has shown
+pub record MachinePasses (m : Model) (body : List ℕ) : Type 0 where
+  pub two-bytes : length body ≡ 2
+  pub no-move-yet : moveCount m ≡ 0
+  pub room : machineCount m < 32
+  pub valid : ValidMachine (byte body 0) (byte body 1)
+
+-- and a move record
+pub record MovePasses (m : Model) (body : List ℕ) : Type 0 where
+  pub long : 4 ≤ length body
+  pub short : length body ≤ 20
+  pub even : length body % 2 ≡ 0
+  pub has-machine : 0 < machineCount m
+  pub room : moveCount m < 250
+  pub valid : ValidMove m (moveOf body)
+  pub new : any (sameMove (moveOf body)) (m .moves) ≡ false
+
+module _ (m : Model) (at : ℕ) (body : List ℕ) where
+  pub machine-passes : Clear (machineFaults m at body) → MachinePasses m body
+  unfolding machineFaults
+  machine-passes c =
+      let a : ltb 0 (moveCount m) ≡ false = search parts in
+      let b : leb 32 (machineCount m) ≡ false = search parts in
+      record {
+        two-bytes = eqb-true _ _ (not-false _ (c .0));
+        no-move-yet = omega (arith, ltb-false);
+        room = leb-false _ _ b;
+        valid = machine-fits _ _ (c .1 .1 .0);
+      }
+
+  pub move-passes : Clear (moveFaults m at body) → MovePasses m body
+  unfolding moveFaults wrongMoveLength badCommand
+  move-passes c =
+      let a : ltb (length body) 4 ≡ false = search parts in
+      let b : ltb 20 (length body) ≡ false = search parts in
+      let e : eqb (length body % 2) 1 ≡ false = search parts in
+      let f : eqb (machineCount m) 0 ≡ false = search parts in
+      let g : leb 250 (moveCount m) ≡ false = search parts in
+      record {
+        long = ltb-false _ _ a;
+        short = ltb-false _ _ b;
+        even = omega (arith, eqb-false (length body % 2) 1 e);
+        has-machine = omega (arith, eqb-false (machineCount m) 0 f);
+        room = leb-false _ _ g;
+        valid =
+            move-fits m (moveOf body) (omega (arith, guard-count body, ltb-false)) (eqb-false _ _ (search parts))
+            (c .1 .1 .0) (c .1 .1 .1 .0);
+        new = search parts;
+      }

@@ -1,0 +1,154 @@
+-- Judging by the arrays is judging by the model that they hold.
+-- Assumes nothing.
+use Prim.Native.Nat.{ℕ, zero, suc, _+_, _*_, _≤_, _<_}
+use mathlib.Core.Path.{_≡_, refl, sym, ap, ap₂, _∙_}
+use mathlib.Core.Bool.{Bool, true, false, not, _||_, _&&_}
+use mathlib.Core.List.{List, [], _∷_}
+use native.Mathlib.Omega.{arith}
+use native.Mathlib.Nat.{le-trans}
+use borrow.Author.Tests.{leb-false, ltb-false, lt-ltb, le-ltb, le-leb, lt-leb, eq-eqb, ne-eqb}
+use lib.Dec.{eqb, ltb, leb}
+use lib.ListN.{length, getD, take, List·getD-eq-default}
+use Rattle.common.specs.Lists.{any, upTo, pad}
+use Rattle.common.specs.Bits.{bit, beyond}
+use Rattle.common.specs.Reply.{Reply, given, refused, Fault, fault, unless}
+use Rattle.common.proofs.Bools.{by-cases, or-false-left, or-false-right}
+use Rattle.common.proofs.Lists.{any-cong}
+use Rattle.common.proofs.Pad.{getD-pad}
+use Rattle.sheet.specs.Record.{byte}
+use Rattle.sheet.specs.Model.{Guard, Move, Model, machineCount, moveCount, modeCount, guardAt, moveOf}
+use Rattle.sheet.specs.Faults.{wrongMoveLength, badMachine, badMove, badGuard, badGuards, sameMove, badCommand}
+use Rattle.sheet.specs.Faults.{machineFaults, moveFaults, endFaults}
+use Rattle.sheet.specs.Held.{keyOf, fine, Small, Held}
+use Rattle.sheet.specs.Valid.{ValidMove}
+use Rattle.sheet.proofs.Fits.{has-modes}
+use Rattle.sheet.proofs.Keys.{key-repeats}
+
+-- zeros behind the modes change nothing
+pub pad-bad-move : (modes live : List ℕ) (v : Move) → badMove (pad 32 modes) (pad 32 live) v ≡ badMove modes live v
+unfolding badMove
+pad-bad-move modes live v = rw (getD-pad 32 modes (v .machine), getD-pad 32 live (v .machine))
+
+pub pad-bad-guards : (modes : List ℕ) (v : Move) → badGuards (pad 32 modes) v ≡ badGuards modes v
+unfolding badGuards badGuard
+pad-bad-guards modes v =
+    any-cong (badGuard (pad 32 modes) v) (badGuard modes v) (upTo (length (v .guards)))
+    (λ n _. rw (getD-pad 32 modes (guardAt v n .machine)))
+
+-- a move that passes 6 has small numbers
+pub small-move : (m : Model) {machines moves : ℕ} {modes live keys : List ℕ} (body : List ℕ) → Held m machines moves modes live keys
+    → byte body 0 < machineCount m → byte body 1 < modeCount m (byte body 0) → byte body 3 < 256 → Small (moveOf body)
+unfolding moveOf
+small-move m body h present from last =
+    record {
+      machine = omega (arith, h .machines-are, h .few-machines);
+      from = omega (arith, h .few-modes (byte body 0));
+      command = last;
+    }
+
+pub valid-small : (m : Model) {machines moves : ℕ} {modes live keys : List ℕ} (body : List ℕ) → Held m machines moves modes live keys
+    → ValidMove m (moveOf body) → byte body 3 < 256 → Small (moveOf body)
+unfolding moveOf
+valid-small m body h v last = small-move m body h (v .present) (v .from-present) last
+
+passed-small : (m : Model) {machines moves : ℕ} {modes live keys : List ℕ} (body : List ℕ) → Held m machines moves modes live keys
+    → badMove (m .modes) (m .live) (moveOf body) ≡ false → byte body 3 < 256 → Small (moveOf body)
+unfolding badMove moveOf
+passed-small m body h f last =
+    let from = leb-false _ _ (or-false-left _ _ (or-false-left _ _ (or-false-left _ _ (or-false-left _ _ f)))) in
+    small-move m body h (has-modes m _ (omega arith)) from last
+
+commanded : (body : List ℕ) → (byte body 3 ≡ 0 → ⊥) → eqb (moveOf body .command) 0 ≡ false
+unfolding moveOf
+commanded body y = ne-eqb _ _ y
+
+-- a move's body has its four first bytes, and at most 20
+pub move-long : (n : ℕ) {a : Bool} → a ≡ wrongMoveLength n → a ≡ false → (4 ≤ n) × (n ≤ 20)
+unfolding wrongMoveLength
+move-long n e f =
+    let q = or-false-left _ _ (sym e ∙ f) in
+    (ltb-false _ _ (or-false-left _ _ q), ltb-false _ _ (or-false-right (ltb n 4) _ q))
+
+-- what is found in a machine record, test by test
+module _ (m : Model) (at : ℕ) {machines moves : ℕ} (body : List ℕ) (e : machineCount m ≡ machines)
+    (f : moveCount m ≡ moves) where
+  pub machine-length : (length body ≡ 2 → ⊥) → refused 2 at ≡ unless (machineFaults m at body) fine
+  unfolding unless machineFaults
+  machine-length h = rw (ne-eqb _ _ h)
+
+  pub machine-late : length body ≡ 2 → 0 < moves → refused 4 at ≡ unless (machineFaults m at body) fine
+  unfolding unless machineFaults
+  machine-late h g = rw (eq-eqb _ _ h, f, lt-ltb _ _ g)
+
+  pub machine-many : length body ≡ 2 → moves ≤ 0 → 32 ≤ machines
+      → refused 4 at ≡ unless (machineFaults m at body) fine
+  unfolding unless machineFaults
+  machine-many h g k = rw (eq-eqb _ _ h, f, le-ltb _ _ g, e, le-leb _ _ k)
+
+  module _ {a : Bool} (h : length body ≡ 2) (g : moves ≤ 0) (k : machines < 32) (b : a ≡ badMachine (byte body 0) (byte body 1)) where
+    pub machine-bad : a ≡ true → refused 5 at ≡ unless (machineFaults m at body) fine
+    unfolding unless machineFaults
+    machine-bad t = rw (eq-eqb _ _ h, f, le-ltb _ _ g, e, lt-leb _ _ k, ← b, t)
+
+    pub machine-fine : a ≡ false → fine ≡ unless (machineFaults m at body) fine
+    unfolding unless machineFaults
+    machine-fine t = rw (eq-eqb _ _ h, f, le-ltb _ _ g, e, lt-leb _ _ k, ← b, t)
+
+-- what is found in a move record, test by test: 8 by the keys
+module _ (m : Model) (at : ℕ) {machines moves : ℕ} {modes live keys : List ℕ} (body : List ℕ)
+    (h : Held m machines moves modes live keys) {a : Bool} (ea : a ≡ wrongMoveLength (length body)) where
+  held-move : badMove (m .modes) (m .live) (moveOf body) ≡ badMove modes live (moveOf body)
+  held-move = rw (h .modes-in, h .live-in) (sym (pad-bad-move _ _ _))
+
+  held-guards : badGuards (m .modes) (moveOf body) ≡ badGuards modes (moveOf body)
+  held-guards = rw (h .modes-in) (sym (pad-bad-guards _ _))
+
+  pub move-length : a ≡ true → refused 2 at ≡ unless (moveFaults m at body) fine
+  unfolding unless moveFaults
+  move-length t = rw (← ea, t)
+
+  pub move-early : a ≡ false → machines ≡ 0 → refused 4 at ≡ unless (moveFaults m at body) fine
+  unfolding unless moveFaults
+  move-early t z = rw (← ea, t, h .machines-are, eq-eqb _ _ z)
+
+  pub move-many : a ≡ false → (machines ≡ 0 → ⊥) → 250 ≤ moves → refused 4 at ≡ unless (moveFaults m at body) fine
+  unfolding unless moveFaults
+  move-many t z k = rw (← ea, t, h .machines-are, ne-eqb _ _ z, h .moves-are, le-leb _ _ k)
+
+  module _ {b : Bool} (t : a ≡ false) (z : machines ≡ 0 → ⊥) (k : moves < 250) (eb : b ≡ badMove modes live (moveOf body)) where
+    pub move-bad : b ≡ true → refused 6 at ≡ unless (moveFaults m at body) fine
+    unfolding unless moveFaults
+    move-bad q = rw (← ea, t, h .machines-are, ne-eqb _ _ z, h .moves-are, lt-leb _ _ k, held-move, ← eb, q)
+
+    module _ {c : Bool} (q : b ≡ false) (ec : c ≡ badGuards modes (moveOf body)) where
+      early : unless (moveFaults m at body) fine
+          ≡ unless (fault 7 at c ∷ fault 8 at (badCommand (m .moves) (moveOf body)) ∷ []) fine
+      unfolding unless moveFaults
+      early =
+          rw (← ea, t, h .machines-are, ne-eqb _ _ z, h .moves-are, lt-leb _ _ k, held-move, ← eb, q, held-guards, ← ec)
+
+      pub move-guards : c ≡ true → refused 7 at ≡ unless (moveFaults m at body) fine
+      unfolding unless
+      move-guards w = sym (early ∙ rw w)
+
+      pub move-silent : c ≡ false → byte body 3 ≡ 0 → refused 8 at ≡ unless (moveFaults m at body) fine
+      unfolding unless badCommand moveOf
+      move-silent w y = sym (early ∙ rw (w, eq-eqb _ _ y))
+
+      module _ {key : ℕ} {d : Bool} (w : c ≡ false) (y : byte body 3 ≡ 0 → ⊥) (last : byte body 3 < 256)
+          (ek : key ≡ keyOf (moveOf body)) (ed : d ≡ any (eqb key) (take moves keys)) where
+        small : Small (moveOf body)
+        small = passed-small m body h (held-move ∙ sym eb ∙ q) last
+
+        late : unless (moveFaults m at body) fine ≡ unless (fault 8 at d ∷ []) fine
+        unfolding unless badCommand
+        late =
+            early ∙ rw (w, commanded body y, ed, ek, key-repeats m (moveOf body) h small)
+
+        pub move-repeated : d ≡ true → refused 8 at ≡ unless (moveFaults m at body) fine
+        unfolding unless
+        move-repeated x = sym (late ∙ rw x)
+
+        pub move-fine : d ≡ false → fine ≡ unless (moveFaults m at body) fine
+        unfolding unless
+        move-fine x = sym (late ∙ rw x)

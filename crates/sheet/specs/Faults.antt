@@ -1,0 +1,77 @@
+-- "Why a call is turned down", 2 and 4 to 8: the causes that one whole record can have, lowest number first.
+use Prim.Native.Nat.{ℕ, _-_, _%_}
+use mathlib.Core.List.{List, [], _∷_}
+use mathlib.Core.Bool.{Bool, true, cond, not, _&&_, _||_}
+use lib.ListN.{length, getD}
+use lib.Dec.{eqb, ltb, leb}
+use Rattle.common.specs.Lists.{upTo, any}
+use Rattle.common.specs.Bits.{bit, beyond}
+use Rattle.common.specs.Reply.{Fault, fault}
+use Rattle.sheet.specs.Record.{byte}
+use Rattle.sheet.specs.Model.{Guard, Move, Model, machineCount, moveCount, guardAt, moveOf}
+
+-- 2 for a move: its machine, modes and command, then 0 to 8 needs of two bytes
+unfoldable pub wrongMoveLength : ℕ → Bool
+wrongMoveLength n = ltb n 4 || ltb 20 n || eqb (n % 2) 1
+
+-- 5: mode count outside 1 to 8, live byte empty or beyond the modes
+unfoldable pub badMachine : ℕ → ℕ → Bool
+badMachine modes live = eqb modes 0 || ltb 8 modes || eqb live 0 || beyond modes live
+
+-- 6: the move's machine or a mode absent (an absent machine has no modes), from equal to to, a mode out of order
+unfoldable pub badMove : List ℕ → List ℕ → Move → Bool
+badMove modes live v =
+    leb (getD modes (v .machine) 0) (v .from) || leb (getD modes (v .machine) 0) (v .to)
+    || eqb (v .from) (v .to)
+    || not (bit (getD live (v .machine) 0) (v .from)) || not (bit (getD live (v .machine) 0) (v .to))
+
+-- 7 for need n: its machine absent, the move's own or not above that of the need before; its byte empty or beyond
+unfoldable pub badGuard : List ℕ → Move → ℕ → Bool
+badGuard modes v n =
+    eqb (getD modes (guardAt v n .machine) 0) 0
+    || eqb (guardAt v n .machine) (v .machine)
+    || ltb 0 n && leb (guardAt v n .machine) (guardAt v (n - 1) .machine)
+    || eqb (guardAt v n .mask) 0
+    || beyond (getD modes (guardAt v n .machine) 0) (guardAt v n .mask)
+
+unfoldable pub badGuards : List ℕ → Move → Bool
+badGuards modes v = any (badGuard modes v) (upTo (length (v .guards)))
+
+-- machine, from mode and command as an earlier move
+unfoldable pub sameMove : Move → Move → Bool
+sameMove v w = eqb (v .machine) (w .machine) && eqb (v .from) (w .from) && eqb (v .command) (w .command)
+
+-- 8: command 0, or an earlier move again
+unfoldable pub badCommand : List Move → Move → Bool
+badCommand earlier v = eqb (v .command) 0 || any (sameMove v) earlier
+
+-- the causes of a machine, a move and an end after what has been read, the record beginning at a place
+unfoldable pub machineFaults : Model → ℕ → List ℕ → List Fault
+machineFaults m at body =
+    fault 2 at (not (eqb (length body) 2))
+    ∷ fault 4 at (ltb 0 (moveCount m) || leb 32 (machineCount m))
+    ∷ fault 5 at (badMachine (byte body 0) (byte body 1))
+    ∷ []
+
+unfoldable pub moveFaults : Model → ℕ → List ℕ → List Fault
+moveFaults m at body =
+    fault 2 at (wrongMoveLength (length body))
+    ∷ fault 4 at (eqb (machineCount m) 0 || leb 250 (moveCount m))
+    ∷ fault 6 at (badMove (m .modes) (m .live) (moveOf body))
+    ∷ fault 7 at (badGuards (m .modes) (moveOf body))
+    ∷ fault 8 at (badCommand (m .moves) (moveOf body))
+    ∷ []
+
+unfoldable pub endFaults : Model → ℕ → List ℕ → List Fault
+endFaults m at body =
+    fault 2 at (not (eqb (length body) 0))
+    ∷ fault 4 at (eqb (machineCount m) 0)
+    ∷ []
+
+-- kind 1 is a machine, 2 a move, 3 the end; another kind is unknown
+unfoldable pub faultsOf : Model → ℕ → ℕ → List ℕ → List Fault
+faultsOf m at kind body =
+    cond (eqb kind 1) (machineFaults m at body)
+    (cond (eqb kind 2) (moveFaults m at body)
+    (cond (eqb kind 3) (endFaults m at body)
+    (fault 2 at true ∷ [])))

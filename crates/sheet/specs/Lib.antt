@@ -1,0 +1,9 @@
+pub mod Faults
+pub mod Held
+pub mod Index
+pub mod Model
+pub mod Parse
+pub mod Record
+pub mod Refusal
+pub mod Scan
+pub mod Valid

@@ -1,0 +1,147 @@
+// The index of a sheet: how many machines and moves, each machine's modes, and where each move's body begins.
+use crate::record::byte_at;
+use crate::record::wide;
+use crate::record::word_at;
+use crate::refusal::Verdict;
+ghost use mathlib.Core.Path.{_≡_};
+ghost use Prim.Native.Nat.{_+_, _-_, _*_, _<_};
+ghost use lib.ListN.{getD};
+ghost use Rattle.sheet.specs.Parse.{nothing};
+ghost use Rattle.sheet.specs.Index.{indexOf, modesIn, liveIn, moveByte, guardCountIn};
+
+// The number of a machine.
+pub struct Machine(pub u8);
+
+// The number of a move.
+pub struct Move(pub u8);
+
+pub struct Sheet {
+    pub machines: usize,
+    pub moves: usize,
+    pub modes: [u8; 32],
+    pub live: [u8; 32],
+    pub bodies: [u16; 250],
+}
+
+// The reply of reading a sheet. A refused sheet has the empty index.
+pub struct Reading {
+    pub verdict: Verdict,
+    pub sheet: Sheet,
+}
+
+impl Sheet {
+    // Machines at most.
+    pub const MACHINES: usize = 32;
+
+    // Moves at most.
+    pub const MOVES: usize = 250;
+
+    // The index of a sheet with nothing in it.
+    pub fn empty() -> Self
+        ensures { λ r. ⌜ r ≡ indexOf nothing ⌝ }
+    {
+        Sheet {
+            machines: 0,
+            moves: 0,
+            modes: [0; 32],
+            live: [0; 32],
+            bodies: [0; 250],
+        }
+    }
+
+    // How many modes a machine has: 0 for an absent one.
+    pub fn mode_count(self, m: Machine) -> u8
+        ensures { λ r. ⌜ r ≡ modesIn self (m .0) ⌝ }
+    {
+        let i = wide(m.0);
+        if Sheet::MACHINES <= i {
+            return 0;
+        }
+        self.modes[i]
+    }
+
+    // The live modes of a machine, as bits.
+    pub fn live_modes(self, m: Machine) -> u8
+        ensures { λ r. ⌜ r ≡ liveIn self (m .0) ⌝ }
+    {
+        let i = wide(m.0);
+        if Sheet::MACHINES <= i {
+            return 0;
+        }
+        self.live[i]
+    }
+
+    // Where a move's body begins.
+    fn place(self, v: Move) -> usize
+        ensures { λ r. ⌜ (r ≡ getD (self .bodies) (v .0) 0) × (r < 65536) ⌝ }
+    {
+        let i = wide(v.0);
+        if Sheet::MOVES <= i {
+            return 0;
+        }
+        self.bodies[i] as usize
+    }
+
+    // Byte n of a move's body, in the file that was read.
+    fn move_byte(self, s: &[u8], v: Move, n: usize) -> u8
+        requires { ⌜ n < 65536 ⌝ }
+        ensures { λ r. ⌜ r ≡ moveByte (now (s .entry)) self (v .0) n ⌝ }
+    {
+        byte_at(s, self.place(v) + n)
+    }
+
+    pub fn move_machine(self, s: &[u8], v: Move) -> Machine
+        ensures { λ r. ⌜ r .0 ≡ moveByte (now (s .entry)) self (v .0) 0 ⌝ }
+    {
+        Machine(self.move_byte(s, v, 0))
+    }
+
+    pub fn move_from(self, s: &[u8], v: Move) -> u8
+        ensures { λ r. ⌜ r ≡ moveByte (now (s .entry)) self (v .0) 1 ⌝ }
+    {
+        self.move_byte(s, v, 1)
+    }
+
+    pub fn move_to(self, s: &[u8], v: Move) -> u8
+        ensures { λ r. ⌜ r ≡ moveByte (now (s .entry)) self (v .0) 2 ⌝ }
+    {
+        self.move_byte(s, v, 2)
+    }
+
+    pub fn move_command(self, s: &[u8], v: Move) -> u8
+        ensures { λ r. ⌜ r ≡ moveByte (now (s .entry)) self (v .0) 3 ⌝ }
+    {
+        self.move_byte(s, v, 3)
+    }
+
+    // How many needs a move has.
+    pub fn guard_count(self, s: &[u8], v: Move) -> usize
+        ensures { λ r. ⌜ r ≡ guardCountIn (now (s .entry)) self (v .0) ⌝ }
+    {
+        less_four(word_at(s, less_four(self.place(v)))) / 2
+    }
+
+    // The machine of a move's need n.
+    pub fn guard_machine(self, s: &[u8], v: Move, n: u8) -> Machine
+        ensures { λ r. ⌜ r .0 ≡ moveByte (now (s .entry)) self (v .0) (4 + 2 * n) ⌝ }
+    {
+        Machine(self.move_byte(s, v, 4 + 2 * wide(n)))
+    }
+
+    // The modes that a move's need n allows, as bits.
+    pub fn guard_mask(self, s: &[u8], v: Move, n: u8) -> u8
+        ensures { λ r. ⌜ r ≡ moveByte (now (s .entry)) self (v .0) (5 + 2 * n) ⌝ }
+    {
+        self.move_byte(s, v, 5 + 2 * wide(n))
+    }
+}
+
+// Four less, or 0.
+fn less_four(n: usize) -> usize
+    ensures { λ r. ⌜ r ≡ n - 4 ⌝ }
+{
+    if n < 4 {
+        return 0;
+    }
+    n - 4
+}

@@ -1,0 +1,224 @@
+// The causes 2 and 4 to 8 of one whole record, lowest number first.
+use crate::bits::has_beyond;
+use crate::bits::has_mode;
+use crate::index::Sheet;
+use crate::record::byte_at;
+use crate::record::wide;
+use crate::refusal::Cause;
+ghost use mathlib.Core.Path.{_≡_};
+ghost use mathlib.Core.List.{List};
+ghost use Prim.Native.Nat.{ℕ, _+_, _*_, _-_, _/_, _≤_, _<_};
+ghost use lib.ListN.{length, take};
+ghost use lib.Dec.{eqb, ltb, leb};
+ghost use mathlib.Core.Bool.{_&&_};
+ghost use Rattle.common.specs.Lists.{any};
+ghost use Rattle.common.specs.Reply.{unless};
+ghost use Rattle.sheet.specs.Record.{byte};
+ghost use Rattle.sheet.specs.Model.{Model, machineCount, moveCount, moveOf};
+ghost use Rattle.sheet.specs.Faults.{wrongMoveLength, badMachine, badMove, badGuard, badGuards, machineFaults, moveFaults, endFaults};
+ghost use Rattle.sheet.specs.Held.{fine, judgedOf, keyOf, Held};
+
+// What judging a record finds.
+pub enum Judged {
+    Fine,
+    Faulty(Cause),
+}
+
+// 2 for a move.
+fn wrong_move_length(n: usize) -> bool
+    ensures { λ r. ⌜ r ≡ wrongMoveLength n ⌝ }
+{
+    if n < 4 {
+        return true;
+    }
+    if 20 < n {
+        return true;
+    }
+    n % 2 == 1
+}
+
+// 5.
+fn bad_machine(modes: u8, live: u8) -> bool
+    ensures { λ r. ⌜ r ≡ badMachine modes live ⌝ }
+{
+    if modes == 0 {
+        return true;
+    }
+    if 8 < modes {
+        return true;
+    }
+    if live == 0 {
+        return true;
+    }
+    has_beyond(modes, live)
+}
+
+// 6.
+fn bad_move(body: &[u8], modes: &[u8], live: &[u8]) -> bool
+    requires { ⌜ 4 ≤ length (now body) ⌝ }
+    ensures { λ r. ⌜ r ≡ badMove (now (modes .entry)) (now (live .entry)) (moveOf (now (body .entry))) ⌝ }
+{
+    let machine = wide(body[0]);
+    let from = body[1];
+    let to = body[2];
+    let count = byte_at(modes, machine);
+    if count <= from {
+        return true;
+    }
+    if count <= to {
+        return true;
+    }
+    if from == to {
+        return true;
+    }
+    let lit = byte_at(live, machine);
+    if has_mode(lit, from) {
+        return !has_mode(lit, to);
+    }
+    true
+}
+
+// Whether a need's machine is not above that of the need before.
+fn not_rising(body: &[u8], machine: u8, n: usize) -> bool
+    requires { ⌜ 2 * n + 5 < length (now body) ⌝ }
+    ensures { λ r. ⌜ r ≡ (ltb 0 n && leb machine (byte (now (body .entry)) (2 + 2 * n))) ⌝ }
+{
+    if 0 < n {
+        return machine <= body[2 + 2 * n];
+    }
+    false
+}
+
+// 7 for need n, of a body that has it.
+fn bad_guard(body: &[u8], modes: &[u8], n: usize) -> bool
+    requires { ⌜ 2 * n + 5 < length (now body) ⌝ }
+    ensures { λ r. ⌜ r ≡ badGuard (now (modes .entry)) (moveOf (now (body .entry))) n ⌝ }
+{
+    let machine = body[4 + 2 * n];
+    let mask = body[5 + 2 * n];
+    let count = byte_at(modes, wide(machine));
+    if count == 0 {
+        return true;
+    }
+    if machine == body[0] {
+        return true;
+    }
+    if not_rising(body, machine, n) {
+        return true;
+    }
+    if mask == 0 {
+        return true;
+    }
+    has_beyond(count, mask)
+}
+
+// 7.
+fn bad_guards(body: &[u8], modes: &[u8]) -> bool
+    requires { ⌜ 4 ≤ length (now body) ⌝ }
+    ensures { λ r. ⌜ r ≡ badGuards (now (modes .entry)) (moveOf (now (body .entry))) ⌝ }
+{
+    let count = (body.len() - 4) / 2;
+    let mut n: usize = 0;
+    while n < count {
+        if bad_guard(body, modes, n) {
+            return true;
+        }
+        n += 1;
+    }
+    false
+}
+
+// A move's machine, from mode and command as one number.
+pub fn key_of(body: &[u8]) -> u16
+    ensures { λ r. ⌜ r ≡ keyOf (moveOf (now (body .entry))) ⌝ }
+{
+    let machine = wide(byte_at(body, 0));
+    let from = wide(byte_at(body, 1));
+    let command = wide(byte_at(body, 3));
+    ((2048 * machine + 256 * from + command) % 65536) as u16
+}
+
+// Whether a key is among the first of some keys.
+fn repeated(keys: &[u16], moves: usize, key: u16) -> bool
+    requires { ⌜ moves ≤ length (now keys) ⌝ }
+    ensures { λ r. ⌜ r ≡ any (eqb key) (take moves (now (keys .entry))) ⌝ }
+{
+    let mut hits: usize = 0;
+    let mut i: usize = 0;
+    while i < moves {
+        hits += (key == keys[i]) as usize;
+        i += 1;
+    }
+    0 < hits
+}
+
+// A machine record, after so many machines and moves.
+pub fn judge_machine(body: &[u8], machines: usize, moves: usize) -> Judged
+    ensures { λ r. ⌜ ((m : Model) (at : ℕ) → machineCount m ≡ machines → moveCount m ≡ moves
+        → judgedOf r at ≡ unless (machineFaults m at (now (body .entry))) fine) ⌝ }
+{
+    if body.len() != 2 {
+        return Judged::Faulty(Cause::WrongKind);
+    }
+    if 0 < moves {
+        return Judged::Faulty(Cause::Misplaced);
+    }
+    if Sheet::MACHINES <= machines {
+        return Judged::Faulty(Cause::Misplaced);
+    }
+    if bad_machine(body[0], body[1]) {
+        return Judged::Faulty(Cause::BadMachine);
+    }
+    Judged::Fine
+}
+
+// A move record, after the machines and moves that are held.
+pub fn judge_move(
+    body: &[u8],
+    machines: usize,
+    moves: usize,
+    modes: &[u8],
+    live: &[u8],
+    keys: &[u16],
+) -> Judged
+    requires { ⌜ length (now keys) ≡ 250 ⌝ }
+    ensures { λ r. ⌜ ((m : Model) (at : ℕ) → Held m machines moves (now (modes .entry)) (now (live .entry)) (now (keys .entry))
+        → judgedOf r at ≡ unless (moveFaults m at (now (body .entry))) fine) ⌝ }
+{
+    if wrong_move_length(body.len()) {
+        return Judged::Faulty(Cause::WrongKind);
+    }
+    if machines == 0 {
+        return Judged::Faulty(Cause::Misplaced);
+    }
+    if Sheet::MOVES <= moves {
+        return Judged::Faulty(Cause::Misplaced);
+    }
+    if bad_move(body, modes, live) {
+        return Judged::Faulty(Cause::BadMove);
+    }
+    if bad_guards(body, modes) {
+        return Judged::Faulty(Cause::BadGuard);
+    }
+    if body[3] == 0 {
+        return Judged::Faulty(Cause::BadCommand);
+    }
+    if repeated(keys, moves, key_of(body)) {
+        return Judged::Faulty(Cause::BadCommand);
+    }
+    Judged::Fine
+}
+
+// An end record, after so many machines.
+pub fn judge_end(body: &[u8], machines: usize) -> Judged
+    ensures { λ r. ⌜ ((m : Model) (at : ℕ) → machineCount m ≡ machines
+        → judgedOf r at ≡ unless (endFaults m at (now (body .entry))) fine) ⌝ }
+{
+    if body.len() != 0 {
+        return Judged::Faulty(Cause::WrongKind);
+    }
+    if machines == 0 {
+        return Judged::Faulty(Cause::Misplaced);
+    }
+    Judged::Fine
+}

@@ -1,0 +1,7 @@
+// The sheet: records, the sheet's limits, the refusals 1 to 8 and the index of a sheet that was read.
+pub mod bits;
+pub mod index;
+mod judge;
+pub mod record;
+pub mod refusal;
+pub mod scan;

@@ -1,0 +1,77 @@
+// Records of a file: a two-byte body length, a two-byte kind, then the body. Kinds mean nothing here.
+ghost use mathlib.Core.Path.{_≡_};
+ghost use Prim.Native.Nat.{_<_};
+ghost use Rattle.sheet.specs.Record.{byte, word, recordAt, bodyAt};
+
+// What begins at a place of a file.
+pub enum Record {
+    // A whole record: its kind, where its body starts, and how long that is.
+    Whole { kind: u16, start: usize, len: usize },
+    // Not as many bytes as the record says, or as a header has.
+    Cut,
+}
+
+// A byte as a number.
+pub fn wide(b: u8) -> usize
+    ensures { λ r. ⌜ (r ≡ b) × (r < 256) ⌝ }
+{
+    b as usize
+}
+
+// The byte at a place, 0 past the end.
+pub fn byte_at(s: &[u8], i: usize) -> u8
+    ensures { λ r. ⌜ r ≡ byte (now (s .entry)) i ⌝ }
+{
+    if s.len() <= i {
+        return 0;
+    }
+    s[i]
+}
+
+// The two-byte number at a place.
+pub fn word_at(s: &[u8], i: usize) -> usize
+    ensures { λ r. ⌜ (r ≡ word (now (s .entry)) i) × (r < 65536) ⌝ }
+{
+    if s.len() <= i {
+        return 0;
+    }
+    wide(s[i]) + 256 * wide(byte_at(s, i + 1))
+}
+
+// The record that begins at a place.
+pub fn read(s: &[u8], at: usize) -> Record
+    ensures { λ r. ⌜ r ≡ recordAt (now (s .entry)) at ⌝ }
+{
+    if s.len() <= at {
+        return Record::Cut;
+    }
+    if s.len() - at < 4 {
+        return Record::Cut;
+    }
+    let len = word_at(s, at);
+    let kind = word_at(s, at + 2) as u16;
+    if s.len() - at - 4 < len {
+        return Record::Cut;
+    }
+    Record::Whole {
+        kind,
+        start: at + 4,
+        len,
+    }
+}
+
+// The body of the record that begins at a place, as that part of the file; empty where no whole record begins there.
+pub fn body(s: &[u8], at: usize) -> &[u8]
+    ensures { λ r. ⌜ now r ≡ bodyAt (now (s .entry)) at ⌝ }
+{
+    let Record::Whole {
+        kind: _,
+        start,
+        len,
+    } = read(s, at)
+    else {
+        return &s[..0];
+    };
+    let end = start + len;
+    &s[start..end]
+}
