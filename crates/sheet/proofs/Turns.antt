@@ -126,14 +126,19 @@ module _ (s : List ℕ) (at : ℕ) (d : Parsed) (kind start len : ℕ) where
       })
       (λ f. absurd (more-not-ended (rw f at g)))
 
-  pub refuses : {k p : ℕ} → turnAt s at d kind start len ≡ refused k p
-      → CausedBy faults k p ⊎ CausedBy (bytesBehind s (start + len)) k p
+  -- 3 is judged where no other cause applies, behind an end record
+  pub record Behind (k p : ℕ) : Type 0 where
+    pub clear : Clear faults
+    pub is-end : eqb kind 3 ≡ true
+    pub caused : CausedBy (bytesBehind s (start + len)) k p
+
+  pub refuses : {k p : ℕ} → turnAt s at d kind start len ≡ refused k p → CausedBy faults k p ⊎ Behind k p
   unfolding turnAt
   refuses q =
       ⊎-elim inl
       (λ c.
       by-cases (eqb kind 3)
-      (λ t. inr (refused-cause (bytesBehind s (start + len)) _ (rw t at (c .1))))
+      (λ t. inr (record { clear = c .0; is-end = t; caused = refused-cause (bytesBehind s (start + len)) _ (rw t at (c .1)) }))
       (λ f. absurd (given-not-refused (rw f at (c .1)))))
       (refused-ways faults _ q)
 

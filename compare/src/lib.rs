@@ -1,0 +1,45 @@
+//! A second version of the kitchen duty planner, in plain Rust, written apart
+//! from the proved one. The tests hold the two against each other and the
+//! benchmark measures one by the other.
+
+pub mod calls;
+pub mod command;
+pub mod faults;
+pub mod groups;
+pub mod library;
+pub mod plan;
+pub mod random;
+pub mod records;
+pub mod samples;
+pub mod shape;
+pub mod sheet;
+pub mod walk;
+
+/// Why a call is turned down: the number of the cause and the place of it.
+#[derive(Clone, Copy, Debug, PartialEq, Eq)]
+pub struct Refusal {
+    pub number: u32,
+    pub place: u32,
+}
+
+pub type Reply<T> = Result<T, Refusal>;
+
+/// A refused reply.
+pub fn refuse<T>(number: u32, place: usize) -> Reply<T> {
+    let place = place as u32;
+    Err(Refusal { number, place })
+}
+
+/// The members of a bit set, lowest first.
+pub fn bits(mut set: u64) -> impl Iterator<Item = usize> {
+    std::iter::from_fn(move || {
+        let lowest = (set != 0).then(|| set.trailing_zeros() as usize)?;
+        set &= set - 1;
+        Some(lowest)
+    })
+}
+
+/// The highest member of a bit set, if it has one.
+pub fn highest(set: u32) -> Option<usize> {
+    set.checked_ilog2().map(|bit| bit as usize)
+}

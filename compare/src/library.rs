@@ -1,0 +1,20 @@
+//! The proved library, behind its C interface.
+
+use crate::{refuse, Reply};
+
+extern "C" {
+    fn duty_sheet(sheet: *const u8, n: usize) -> u64;
+}
+
+/// Splits a reply word: the refusal's number above, its place or the value below.
+fn split(word: u64) -> Reply<u32> {
+    match word >> 32 {
+        0 => Ok(word as u32),
+        number => refuse(number as u32, word as u32 as usize),
+    }
+}
+
+/// Checks a sheet; the value is 256 × moves + machines.
+pub fn sheet(sheet: &[u8]) -> Reply<u32> {
+    split(unsafe { duty_sheet(sheet.as_ptr(), sheet.len()) })
+}

@@ -1,0 +1,119 @@
+//! The worked cases: the stove, the filter, the dials and the groups of 64.
+
+use duty_compare::command::{apply, next_command, Command, Next};
+use duty_compare::plan::plan_length;
+use duty_compare::samples::{blocks, dials, filter, stove, Builder};
+use duty_compare::shape::Plan;
+use duty_compare::sheet::Sheet;
+use duty_compare::walk::{bound_of, own_plan, walk};
+use duty_compare::{refuse, Reply};
+
+fn bound(sheet: &[u8]) -> Reply<u32> {
+    own_plan(sheet).map(|plan| bound_of(&plan))
+}
+
+fn next(sheet: &[u8], state: &[u8], goal: &[u8]) -> Reply<Next> {
+    next_command(sheet, &own_plan(sheet)?, state, goal)
+}
+
+/// An entry of the sheet's own plan.
+fn entry(sheet: &[u8], group: usize, from: usize, wanted: usize) -> [u8; 2] {
+    let plan = own_plan(sheet).expect("a plan");
+    let read = Sheet::read(sheet).expect("a sheet");
+    Plan::read(&read, &plan)
+        .expect("its own plan")
+        .entries(group, from)[wanted]
+}
+
+#[test]
+fn case_1_stove_has_two_groups_bound_7_and_107_bytes() {
+    let plan = own_plan(&stove()).expect("a plan");
+    assert_eq!(plan[..7], [3, 0, 16, 0, 0, 1, 1]);
+    assert_eq!(bound_of(&plan), 7);
+    assert_eq!(plan_length(&stove()), Ok(107));
+}
+
+#[test]
+fn case_2_distance_from_lit_without_fan_is_3() {
+    // Fan off, burner lit is 2; fan on, burner lit is 3. First the burner goes off.
+    assert_eq!(entry(&stove(), 1, 2, 3), [3, 5]);
+}
+
+#[test]
+fn case_3_walk_turns_the_board_off_last() {
+    let printed = walk(&stove(), &[0, 0, 0], &[1, 2, 2]);
+    assert_eq!(printed, "0 1\n1 1\n2 1\n0 2\ndone 4 bound 7\n");
+}
+
+#[test]
+fn case_4_tripped_burner_is_reset() {
+    let sent = Command {
+        machine: 2,
+        command: 3,
+    };
+    assert_eq!(next(&stove(), &[1, 1, 2], &[2, 2, 2]), Ok(Next::Send(sent)));
+}
+
+#[test]
+fn case_5_burner_cannot_be_tripped_on_purpose() {
+    assert_eq!(next(&stove(), &[1, 1, 1], &[3, 3, 4]), refuse(17, 1));
+}
+
+#[test]
+fn case_6_fan_stays_on_while_the_burner_is_lit() {
+    let mut state = [1, 1, 1];
+    let reply = apply(
+        &stove(),
+        &mut state,
+        Command {
+            machine: 1,
+            command: 2,
+        },
+    );
+    assert_eq!((reply, state), (Ok(false), [1, 1, 1]));
+}
+
+#[test]
+fn case_7_one_machine_of_one_mode_is_done() {
+    let sheet = Builder::new().machines(1, 1).end();
+    assert_eq!(walk(&sheet, &[0], &[1]), "done 0 bound 0\n");
+}
+
+#[test]
+fn case_8_filter_could_be_used_up() {
+    assert_eq!(next(&filter(), &[0, 0], &[1, 2]), refuse(18, 0));
+}
+
+#[test]
+fn case_9_five_dials_are_planned_and_a_sixth_is_too_many() {
+    assert_eq!(bound(&dials(5)), Ok(22_869));
+    assert_eq!(bound(&dials(6)), refuse(11, 0));
+}
+
+#[test]
+fn case_10_four_groups_of_64_fit_and_one_mode_more_does_not() {
+    assert_eq!(
+        plan_length(&blocks(4, 0, true)),
+        Ok(4 + 8 + 4 * (4 + 8192) + 8 + 4)
+    );
+    assert!(own_plan(&blocks(4, 0, true)).is_ok());
+    assert_eq!(plan_length(&blocks(4, 1, true)), refuse(10, 0));
+}
+
+#[test]
+fn a_command_of_an_absent_machine_changes_nothing() {
+    let mut state = [1, 1, 1];
+    for command in [
+        Command {
+            machine: 3,
+            command: 1,
+        },
+        Command {
+            machine: 0,
+            command: 0,
+        },
+    ] {
+        assert_eq!(apply(&stove(), &mut state, command), Ok(false));
+    }
+    assert_eq!(state, [1, 1, 1]);
+}

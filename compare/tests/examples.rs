@@ -1,0 +1,105 @@
+//! The example kitchens: their bytes, and what is claimed of them.
+
+use duty_compare::command::{apply, next_command, Next};
+use duty_compare::random::Random;
+use duty_compare::refuse;
+use duty_compare::samples::stove;
+use duty_compare::shape::Plan;
+use duty_compare::sheet::{check_sheet, Sheet};
+use duty_compare::walk::{bound_of, own_plan, walk};
+
+const KITCHEN: &[u8] = include_bytes!("../../examples/kitchen/sheet.bin");
+
+#[test]
+fn the_stove_is_the_stove() {
+    let sheet = include_bytes!("../../examples/stove/sheet.bin");
+    let state = include_bytes!("../../examples/stove/state.bin");
+    let goal = include_bytes!("../../examples/stove/wish.bin");
+    assert_eq!(sheet[..], stove());
+    assert_eq!((state, goal), (&[0, 0, 0], &[1, 2, 2]));
+}
+
+#[test]
+fn the_faulty_stove_is_refused() {
+    let sheet = include_bytes!("../../examples/refused/sheet.bin");
+    assert_eq!(check_sheet(sheet), refuse(7, 58));
+}
+
+#[test]
+fn the_kitchen_has_twenty_machines_of_three_live_modes() {
+    let sheet = Sheet::read(KITCHEN).expect("a sheet");
+    assert_eq!(sheet.machines(), 20);
+    assert!((0..20).all(|machine| sheet.count(machine) == 3 && sheet.live(machine) == 7));
+}
+
+/// With every mode live and every entry a route, 16, 17 and 18 apply to no
+/// state and no goal.
+#[test]
+fn every_state_of_the_kitchen_can_meet_every_goal() {
+    let plan = own_plan(KITCHEN).expect("a plan");
+    let sheet = Sheet::read(KITCHEN).expect("a sheet");
+    let read = Plan::read(&sheet, &plan).expect("its own plan");
+    let mut states = 1;
+    for group in 0..read.groups.count {
+        let size = read.groups.size(group);
+        states *= size;
+        for mode in 0..size as usize {
+            assert_eq!(
+                read.reach(group, mode),
+                u64::MAX >> (64 - size),
+                "group {group} mode {mode}"
+            );
+        }
+    }
+    assert_eq!(states, 3_486_784_401);
+}
+
+#[test]
+fn the_kitchen_has_layers_and_groups() {
+    let plan = own_plan(KITCHEN).expect("a plan");
+    let sheet = Sheet::read(KITCHEN).expect("a sheet");
+    let groups = Plan::read(&sheet, &plan).expect("its own plan").groups;
+    let mut sizes: Vec<_> = (0..groups.count).map(|group| groups.size(group)).collect();
+    sizes.sort_unstable();
+    assert_eq!(sizes[13..], [9, 9, 27]);
+    let mut depth = vec![0; groups.count];
+    for group in 0..groups.count {
+        let below = (0..group).filter(|&lower| groups.named(group) >> lower & 1 == 1);
+        depth[group] = below.map(|lower| depth[lower] + 1).max().unwrap_or(0);
+    }
+    assert_eq!(
+        depth.iter().max(),
+        Some(&3),
+        "layers of need above the supplies"
+    );
+}
+
+#[test]
+fn random_walks_of_the_kitchen_arrive_within_the_bound() {
+    let plan = own_plan(KITCHEN).expect("a plan");
+    let random = &mut Random::new(20);
+    for _ in 0..3000 {
+        let mut state: Vec<u8> = (0..20).map(|_| random.below(3) as u8).collect();
+        let goal: Vec<u8> = (0..20).map(|_| 1 + random.below(7) as u8).collect();
+        let mut count = 0;
+        while let Next::Send(command) =
+            next_command(KITCHEN, &plan, &state, &goal).expect("attainable")
+        {
+            assert_eq!(apply(KITCHEN, &mut state, command), Ok(true));
+            count += 1;
+            assert!(count <= bound_of(&plan), "{state:?} {goal:?}");
+        }
+        assert!(goal
+            .iter()
+            .zip(&state)
+            .all(|(mask, mode)| mask >> mode & 1 == 1));
+    }
+}
+
+#[test]
+fn the_kitchen_comes_from_night_to_lunch() {
+    let state = include_bytes!("../../examples/kitchen/state.bin");
+    let goal = include_bytes!("../../examples/kitchen/wish.bin");
+    let printed = walk(KITCHEN, state, goal);
+    assert!(printed.ends_with("done 29 bound 1343\n"), "{printed}");
+}

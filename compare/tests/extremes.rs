@@ -1,0 +1,102 @@
+//! Sheets at the edges: the fullest, the longest plan, and numbers that pass
+//! 32 and 64 bits.
+
+use duty_compare::plan::plan_length;
+use duty_compare::samples::{
+    blocks, circle, dials, fullest, longest_plan, product, snake, Builder,
+};
+use duty_compare::sheet::check_sheet;
+use duty_compare::walk::{bound_of, own_plan, walk};
+use duty_compare::{refuse, Reply};
+
+fn bound(sheet: &[u8]) -> Reply<u32> {
+    own_plan(sheet).map(|plan| bound_of(&plan))
+}
+
+#[test]
+fn the_fullest_sheet_has_6196_bytes() {
+    let sheet = fullest();
+    assert_eq!(sheet.len(), 6196);
+    assert_eq!(check_sheet(&sheet), Ok(256 * 250 + 32));
+    assert_eq!(check_sheet(&[&sheet[..], &[0]].concat()), refuse(3, 6196));
+    assert_eq!(check_sheet(&sheet[..6195]), refuse(1, 6192));
+}
+
+#[test]
+fn a_repeated_move_is_found_across_the_fullest_sheet() {
+    let mut sheet = fullest();
+    let (first, last) = (32 * 6, 6196 - 4 - 24);
+    for field in [0, 1, 2, 3] {
+        sheet[last + 4 + field] = sheet[first + 4 + field];
+    }
+    let guards = first + 8..first + 24;
+    sheet.copy_within(guards, last + 8);
+    assert_eq!(check_sheet(&sheet), refuse(8, last));
+}
+
+#[test]
+fn the_bound_may_be_65535_and_no_more() {
+    assert_eq!(bound(&product(&[2; 16], 0)), Ok(65_535));
+    assert_eq!(bound(&product(&[2; 16], 1)), refuse(11, 0));
+    assert_eq!(bound(&product(&[4; 8], 0)), Ok(65_535));
+}
+
+#[test]
+fn bounds_past_32_and_64_bits_are_refused() {
+    // 2^32 and 2^64 exactly, then a chain that goes on far beyond.
+    assert_eq!(bound(&product(&[4; 16], 1)), refuse(11, 0));
+    let seventh = [[8; 21].as_slice(), &[2]].concat();
+    assert_eq!(bound(&product(&seventh, 1)), refuse(11, 0));
+    assert_eq!(bound(&dials(31)), refuse(11, 0));
+}
+
+#[test]
+fn group_sizes_past_32_and_64_bits_are_refused() {
+    // 8^11 passes 32 bits, 8^22 passes 64 bits, 8^32 is 2^96.
+    for machines in [3, 11, 22, 32] {
+        assert_eq!(plan_length(&circle(machines)), refuse(9, 0), "{machines}");
+    }
+    assert_eq!(plan_length(&circle(2)), Ok(4 + 2 + 4 + 8192 + 8 + 4));
+}
+
+#[test]
+fn the_longest_plan_has_32928_bytes() {
+    let plan = own_plan(&longest_plan()).expect("a plan");
+    assert_eq!(plan.len(), 32_928);
+    assert_eq!(bound_of(&plan), 4);
+}
+
+#[test]
+fn a_route_may_take_63_moves() {
+    let printed = walk(&snake(), &[0, 0], &[1, 0x80]);
+    assert!(printed.ends_with("done 63 bound 63\n"), "{printed}");
+}
+
+#[test]
+fn thirty_two_single_machines_are_thirty_two_groups() {
+    let plan = own_plan(&Builder::new().machines(32, 8).end()).expect("a plan");
+    assert_eq!(
+        plan[4..36],
+        std::array::from_fn::<u8, 32, _>(|machine| machine as u8)
+    );
+    assert_eq!(plan.len(), 36 + 32 * (4 + 128) + 8 + 4);
+}
+
+#[test]
+fn group_numbers_follow_needs_before_machine_numbers() {
+    // Machine 0 needs 2, and 2 needs 1; 3 stands alone.
+    let sheet = Builder::new()
+        .machines(4, 2)
+        .step([0, 0, 1, 1], &[[2, 1]])
+        .step([2, 0, 1, 1], &[[1, 1]])
+        .end();
+    let plan = own_plan(&sheet).expect("a plan");
+    assert_eq!(plan[4..8], [2, 0, 1, 3]);
+}
+
+#[test]
+fn groups_of_64_in_rings_reach_every_mode() {
+    let plan = own_plan(&blocks(4, 0, true)).expect("a plan");
+    let table = &plan[4 + 8 + 4..][..8192];
+    assert!(table.chunks(2).all(|entry| entry[0] < 64));
+}

@@ -1,0 +1,164 @@
+//! Plans that are not the sheet's own: the reply follows from their entries.
+
+use duty_compare::command::{next_command, Command, Next};
+use duty_compare::plan::HERE;
+use duty_compare::samples::{dials, stove, Builder};
+use duty_compare::walk::own_plan;
+use duty_compare::{refuse, Reply};
+
+/// The stove's tables: the board's entries, then fan and burner's.
+const BOARD: usize = 4 + 3 + 4;
+const FAN_BURNER: usize = BOARD + 8 + 4;
+
+const LIT: [u8; 3] = [1, 2, 2];
+
+fn entry_at(table: usize, size: usize, from: usize, wanted: usize) -> usize {
+    table + 2 * (from * size + wanted)
+}
+
+/// The stove's plan after an edit, asked for its next command.
+fn edited(edit: impl FnOnce(&mut Vec<u8>), state: [u8; 3], goal: &[u8]) -> Reply<Next> {
+    let mut plan = own_plan(&stove()).expect("a plan");
+    edit(&mut plan);
+    next_command(&stove(), &plan, &state, goal)
+}
+
+fn send(machine: u8, command: u8) -> Reply<Next> {
+    Ok(Next::Send(Command { machine, command }))
+}
+
+#[test]
+fn another_bound_changes_nothing() {
+    let bound = |plan: &mut Vec<u8>| {
+        let at = plan.len() - 8;
+        plan[at..at + 4].fill(255);
+    };
+    assert_eq!(edited(bound, [0, 0, 0], &LIT), send(0, 1));
+}
+
+#[test]
+fn a_plan_of_another_shape_is_refused() {
+    let misshapen: [fn(&mut Vec<u8>); 9] = [
+        |plan| plan.push(0),
+        |plan| plan.extend([0, 0, 3, 0]),
+        |plan| plan.truncate(106),
+        |plan| plan[2] = 17,
+        |plan| plan[4] = 2,
+        |plan| plan[4..7].copy_from_slice(&[1, 0, 0]),
+        |plan| plan[4..7].copy_from_slice(&[0, 2, 2]),
+        |plan| plan[4] = 255,
+        |plan| plan[BOARD - 4] += 1,
+    ];
+    for (number, edit) in misshapen.into_iter().enumerate() {
+        assert_eq!(
+            edited(edit, [0, 0, 0], &LIT),
+            refuse(15, 0),
+            "edit {number}"
+        );
+    }
+}
+
+/// Replaces the entry from all off to fan on, burner lit.
+fn with_entry(entry: [u8; 2], state: [u8; 3]) -> Reply<Next> {
+    let at = entry_at(FAN_BURNER, 6, 0, 3);
+    edited(|plan| plan[at..at + 2].copy_from_slice(&entry), state, &LIT)
+}
+
+#[test]
+fn an_entry_followed_must_name_a_fitting_move() {
+    // The fan's own move; its distance does not matter unless it is 255.
+    assert_eq!(with_entry([2, 2], [1, 0, 0]), send(1, 1));
+    assert_eq!(with_entry([0, 2], [1, 0, 0]), send(1, 1));
+    assert_eq!(with_entry([254, 2], [1, 0, 0]), send(1, 1));
+    // Of another group, from another mode, with a guard inside not met, absent.
+    for number in [0, 3, 4, 7, 249, 254, 255] {
+        assert_eq!(
+            with_entry([2, number], [1, 0, 0]),
+            refuse(15, 0),
+            "move {number}"
+        );
+    }
+    assert_eq!(with_entry([255, 2], [1, 0, 0]), refuse(17, 1));
+}
+
+#[test]
+fn no_route_for_a_guard_is_an_unfit_entry() {
+    // The fan's move needs the board, whose table has no way on.
+    let at = entry_at(BOARD, 2, 0, 1);
+    let goal = [3, 2, 2];
+    assert_eq!(
+        edited(|plan| plan[at] = 255, [0, 0, 0], &goal),
+        refuse(15, 0)
+    );
+    // Where the board is to be on itself, it may come to a dead end before.
+    assert_eq!(
+        edited(|plan| plan[at] = 255, [0, 0, 0], &[2, 2, 2]),
+        refuse(18, 0)
+    );
+}
+
+#[test]
+fn a_mode_without_a_route_to_itself_is_taken_at_its_word() {
+    // The board has no route at all from off, and so none to itself.
+    let blank = |plan: &mut Vec<u8>| plan[BOARD..BOARD + 8].fill(255);
+    assert_eq!(edited(blank, [1, 0, 0], &[3, 2, 1]), send(1, 1));
+    let trap = |plan: &mut Vec<u8>| {
+        let at = entry_at(BOARD, 2, 0, 0);
+        plan[at..at + 4].fill(255);
+        assert_eq!(plan[at + 6..at + 8], HERE);
+    };
+    assert_eq!(edited(trap, [1, 0, 0], &[3, 2, 1]), refuse(18, 0));
+}
+
+#[test]
+fn machines_may_be_joined_or_numbered_otherwise() {
+    let sheet = Builder::new()
+        .machines(2, 2)
+        .step([0, 0, 1, 7], &[])
+        .step([1, 0, 1, 9], &[])
+        .end();
+    let finish = |tables: &[u8], numbers: &[u8]| {
+        let head = Builder::new().record(16, numbers).unfinished();
+        [&head, tables, &Builder::new().record(18, &[0; 4]).end()].concat()
+    };
+    let single = |number: u8| {
+        Builder::new()
+            .record(17, &[0, 254, 1, number, 255, 255, 0, 254])
+            .unfinished()
+    };
+    let ask = |plan: &[u8]| next_command(&sheet, plan, &[0, 0], &[2, 2]);
+    let own = finish(&[single(0), single(1)].concat(), &[0, 1]);
+    assert_eq!(
+        Ok(&own[..own.len() - 8]),
+        own_plan(&sheet)
+            .as_ref()
+            .map(|plan| &plan[..plan.len() - 8])
+    );
+    assert_eq!(ask(&own), send(1, 9));
+    assert_eq!(
+        ask(&finish(&[single(1), single(0)].concat(), &[1, 0])),
+        send(0, 7)
+    );
+    let joined = Builder::new().record(17, &[1, 0].repeat(16)).unfinished();
+    assert_eq!(ask(&finish(&joined, &[0, 0])), send(0, 7));
+}
+
+#[test]
+fn a_plan_may_serve_a_sheet_that_planning_refuses() {
+    // Six dials: tables of one dial each, all entries one move away.
+    let sheet = dials(6);
+    let mut plan = Builder::new().record(16, &[0, 1, 2, 3, 4, 5]);
+    for dial in 0..6u8 {
+        let row = |from: u8| [1, 8 * dial + from].repeat(8);
+        let table: Vec<u8> = (0..8).flat_map(row).collect();
+        plan = plan.record(17, &table);
+    }
+    let plan = plan.record(18, &[0; 4]).end();
+    assert_eq!(own_plan(&sheet), refuse(11, 0));
+    // The last dial is to turn; the highest of those before it that is in the way goes first.
+    let turned =
+        |state: [u8; 6]| next_command(&sheet, &plan, &state, &[255, 255, 255, 255, 255, 2]);
+    assert_eq!(turned([3, 0, 0, 2, 0, 0]), send(5, 1));
+    assert_eq!(turned([3, 0, 0, 2, 1, 0]), send(3, 1));
+    assert_eq!(turned([3, 1, 1, 2, 1, 0]), send(0, 1));
+}

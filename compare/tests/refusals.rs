@@ -1,0 +1,205 @@
+//! The refusal table: an example or more of each number, with its place.
+
+use duty_compare::command::{apply, next_command, Command};
+use duty_compare::faults::faulty_sheets;
+use duty_compare::plan::{plan, plan_length, SCRATCH};
+use duty_compare::refuse;
+use duty_compare::samples::{blocks, dials, filter, stove, stove_records, Builder};
+use duty_compare::sheet::check_sheet;
+use duty_compare::walk::{own_plan, walk};
+
+#[test]
+fn faulty_sheets_are_refused_at_their_record() {
+    for (name, sheet, number, place) in faulty_sheets() {
+        assert_eq!(check_sheet(&sheet), refuse(number, place), "{name}");
+    }
+}
+
+#[test]
+fn every_call_refuses_a_faulty_sheet_alike() {
+    for (name, sheet, number, place) in faulty_sheets() {
+        let command = Command {
+            machine: 0,
+            command: 0,
+        };
+        assert_eq!(plan_length(&sheet), refuse(number, place), "{name}");
+        assert_eq!(
+            plan(&sheet, &mut [], &mut []),
+            refuse(number, place),
+            "{name}"
+        );
+        assert_eq!(
+            next_command(&sheet, &[], &[], &[]),
+            refuse(number, place),
+            "{name}"
+        );
+        assert_eq!(
+            apply(&sheet, &mut [], command),
+            refuse(number, place),
+            "{name}"
+        );
+        assert_eq!(
+            walk(&sheet, &[], &[]),
+            format!("refused {number} {place}\n"),
+            "{name}"
+        );
+    }
+}
+
+#[test]
+fn refusal_9_names_the_smallest_machine_of_the_lowest_group() {
+    let needing = |sheet: Builder, first: u8| {
+        sheet
+            .step([first, 0, 1, 1], &[[first + 1, 1]])
+            .step([first + 1, 0, 1, 1], &[[first + 2, 1]])
+            .step([first + 2, 0, 1, 1], &[[first, 1]])
+    };
+    let of_72 = |sheet: Builder| sheet.machines(1, 8).machines(2, 3);
+    assert_eq!(
+        plan_length(&needing(of_72(Builder::new()), 0).end()),
+        refuse(9, 0)
+    );
+    let later = of_72(Builder::new().machines(1, 2));
+    assert_eq!(plan_length(&needing(later, 1).end()), refuse(9, 1));
+    // The first of two such groups needs the second, which is so numbered first.
+    let two = of_72(of_72(Builder::new())).step([0, 0, 2, 2], &[[4, 1]]);
+    assert_eq!(
+        plan_length(&needing(needing(two, 0), 3).end()),
+        refuse(9, 3)
+    );
+}
+
+#[test]
+fn refusal_10_for_five_groups_of_64() {
+    assert_eq!(plan_length(&blocks(5, 0, false)), refuse(10, 0));
+}
+
+/// Plans into buffers of other bytes and asserts that a refusal leaves them.
+fn plan_refused(sheet: &[u8], length: usize, scratch: usize, number: u32) {
+    let (mut buffer, mut work) = (vec![7; length], vec![9; scratch]);
+    assert_eq!(
+        plan(sheet, &mut buffer, &mut work),
+        refuse(number, 0),
+        "{length} {scratch}"
+    );
+    assert!(buffer.iter().all(|&byte| byte == 7) && work.iter().all(|&byte| byte == 9));
+}
+
+#[test]
+fn refusal_11_comes_before_12() {
+    let length = plan_length(&dials(6)).expect("a length");
+    plan_refused(&dials(6), length, SCRATCH, 11);
+    plan_refused(&dials(6), 0, 0, 11);
+}
+
+#[test]
+fn refusal_12_for_a_wrong_buffer_or_scratch() {
+    for (length, scratch) in [
+        (0, SCRATCH),
+        (106, SCRATCH),
+        (108, SCRATCH),
+        (107, 0),
+        (107, SCRATCH - 1),
+        (107, SCRATCH + 1),
+    ] {
+        plan_refused(&stove(), length, scratch, 12);
+    }
+}
+
+/// Asks the stove's next command.
+fn refused(state: &[u8], goal: &[u8], number: u32, place: usize) {
+    let plan = own_plan(&stove()).expect("a plan");
+    let reply = next_command(&stove(), &plan, state, goal);
+    assert_eq!(reply, refuse(number, place), "{state:?} {goal:?}");
+}
+
+#[test]
+fn refusal_13_for_states() {
+    refused(&[2, 0, 0], &[1, 1, 1], 13, 0);
+    refused(&[0, 0, 3], &[1, 1, 1], 13, 2);
+    refused(&[0, 2, 3], &[0, 1, 1], 13, 1);
+    refused(&[9, 0], &[1, 1, 1], 13, 255);
+    refused(&[0, 0, 0, 0], &[0], 13, 255);
+    refused(&[0; 70_000], &[1], 13, 255);
+    let mut state = [0, 2, 0];
+    let reply = apply(
+        &stove(),
+        &mut state,
+        Command {
+            machine: 0,
+            command: 1,
+        },
+    );
+    assert_eq!((reply, state), (refuse(13, 1), [0, 2, 0]));
+}
+
+#[test]
+fn refusal_14_for_goals() {
+    refused(&[0, 0, 0], &[0], 14, 0);
+    refused(&[0, 0, 0], &[1, 4, 1], 14, 1);
+    refused(&[0, 0, 0], &[1, 1, 8], 14, 2);
+    refused(&[0, 0, 0], &[0, 1, 1, 1], 14, 255);
+}
+
+#[test]
+fn refusal_15_for_an_empty_plan() {
+    assert_eq!(next_command(&stove(), &[], &[9], &[]), refuse(15, 0));
+}
+
+/// Power with a failed mode, an oven with one, and a tray; each needs the one
+/// before it in mode 0.
+fn oven() -> Vec<u8> {
+    Builder::new()
+        .machine(3, 3)
+        .machine(3, 3)
+        .machines(1, 2)
+        .step([0, 0, 1, 1], &[])
+        .step([0, 1, 0, 2], &[])
+        .step([1, 0, 1, 1], &[[0, 1]])
+        .step([1, 1, 0, 2], &[])
+        .step([2, 0, 1, 1], &[[1, 1]])
+        .end()
+}
+
+#[test]
+fn refusal_16_names_the_highest_group_out_of_order() {
+    let plan = own_plan(&oven()).expect("a plan");
+    let next = |state: [u8; 3], goal: &[u8]| next_command(&oven(), &plan, &state, goal);
+    assert_eq!(next([2, 0, 0], &[7, 2]), refuse(16, 0));
+    assert_eq!(next([2, 2, 0], &[7, 7, 2]), refuse(16, 1));
+    // Through the oven, although the tray itself names only that.
+    assert_eq!(next([2, 0, 0], &[7, 7, 2]), refuse(16, 0));
+    // A met group is not judged by itself.
+    assert!(next([0, 2, 0], &[2, 4]).is_ok());
+    assert!(next([2, 2, 0], &[4, 4]).is_ok());
+}
+
+#[test]
+fn refusal_17_for_a_failed_mode_wished_for() {
+    let plan = own_plan(&oven()).expect("a plan");
+    assert_eq!(
+        next_command(&oven(), &plan, &[0, 0, 0], &[7, 4]),
+        refuse(17, 1)
+    );
+    refused(&[1, 1, 1], &[3, 3, 4], 17, 1);
+}
+
+#[test]
+fn refusal_18_comes_before_17_of_a_lower_group() {
+    // The filter is to be fresh again (17 for itself) and the pan on.
+    let plan = own_plan(&filter()).expect("a plan");
+    assert_eq!(
+        next_command(&filter(), &plan, &[1, 0], &[1, 2]),
+        refuse(18, 0)
+    );
+    assert_eq!(next_command(&filter(), &plan, &[1, 0], &[1]), refuse(17, 0));
+}
+
+#[test]
+fn a_file_of_60_000_bytes_is_read_whole() {
+    let long = [0; 60_000];
+    let unknown = Builder::new().record(9, &long).unfinished();
+    assert_eq!(check_sheet(&unknown), refuse(2, 0));
+    let after = stove_records().record(3, &[]).record(1, &long).unfinished();
+    assert_eq!(check_sheet(&after), refuse(3, 94));
+}

@@ -1,0 +1,169 @@
+//! The Rust version against recorded replies, where they are at hand: in
+//! `shared/vectors` beside the repository, or where DUTY_VECTORS says.
+
+use duty_compare::command::{apply, next_command, Command, Next};
+use duty_compare::plan::{plan, plan_length};
+use duty_compare::walk::walk;
+use duty_compare::Reply;
+use std::collections::HashMap;
+use std::fs;
+use std::io::Write;
+use std::path::{Path, PathBuf};
+
+fn folder() -> Option<PathBuf> {
+    let beside = Path::new(env!("CARGO_MANIFEST_DIR")).join("../../shared/vectors");
+    let folder = std::env::var_os("DUTY_VECTORS").map_or(beside, PathBuf::from);
+    if !folder.is_dir() {
+        say(format!("skipped: no vectors at {}", folder.display()));
+        return None;
+    }
+    Some(folder)
+}
+
+/// Writes a line that the test harness does not hold back.
+fn say(line: String) {
+    let line = line + "\n";
+    std::io::stderr()
+        .write_all(line.as_bytes())
+        .expect("standard error");
+}
+
+fn hex(text: &str) -> Vec<u8> {
+    if text == "-" {
+        return Vec::new();
+    }
+    let pair = |at| u8::from_str_radix(&text[at..at + 2], 16).expect("hex digits");
+    (0..text.len()).step_by(2).map(pair).collect()
+}
+
+fn to_hex(bytes: &[u8]) -> String {
+    match bytes {
+        [] => "-".to_string(),
+        _ => bytes.iter().map(|byte| format!("{byte:02x}")).collect(),
+    }
+}
+
+fn number<T: std::str::FromStr>(text: &str) -> T {
+    text.parse()
+        .unwrap_or_else(|_| panic!("not a number: {text}"))
+}
+
+fn said<T>(reply: Reply<T>, say: impl FnOnce(T) -> String) -> String {
+    match reply {
+        Ok(value) => say(value),
+        Err(refusal) => format!("refused {} {}", refusal.number, refusal.place),
+    }
+}
+
+/// The named sheets and plans of the file.
+#[derive(Default)]
+struct Blobs {
+    by_name: HashMap<String, Vec<u8>>,
+}
+
+impl Blobs {
+    fn get(&self, name: &str) -> &[u8] {
+        &self.by_name[name]
+    }
+
+    fn plan(&self, sheet: &str, length: &str, scratch: &str, expected: &str) -> String {
+        let before = vec![0x5A; number(length)];
+        let scratch_before = vec![0xC3; number(scratch)];
+        let (mut buffer, mut scratch) = (before.clone(), scratch_before.clone());
+        let reply = plan(self.get(sheet), &mut buffer, &mut scratch);
+        if reply.is_err() {
+            assert_eq!(
+                (&buffer, &scratch),
+                (&before, &scratch_before),
+                "refused, yet written"
+            );
+        }
+        said(reply, |()| {
+            assert!(scratch.iter().all(|&byte| byte == 0), "scratch left");
+            let name = expected.strip_prefix("blob ").unwrap_or("none");
+            let same = self.by_name.get(name) == Some(&buffer);
+            let other = || format!("another plan {}", to_hex(&buffer));
+            if same {
+                expected.to_string()
+            } else {
+                other()
+            }
+        })
+    }
+
+    fn apply(&self, sheet: &str, state: &str, machine: &str, command: &str) -> String {
+        let before = hex(state);
+        let mut state = before.clone();
+        let command = Command {
+            machine: number(machine),
+            command: number(command),
+        };
+        let reply = apply(self.get(sheet), &mut state, command);
+        if reply.is_err() {
+            assert_eq!(state, before, "refused, yet written");
+        }
+        said(reply, |changed| {
+            let word = if changed { "changed" } else { "same" };
+            format!("{word} {}", to_hex(&state))
+        })
+    }
+
+    fn reply(&self, call: &[&str], expected: &str) -> String {
+        match *call {
+            ["len", sheet] => said(plan_length(self.get(sheet)), |length| length.to_string()),
+            ["plan", sheet, length, scratch] => self.plan(sheet, length, scratch, expected),
+            ["next", sheet, plan, state, goal] => {
+                let next = next_command(self.get(sheet), self.get(plan), &hex(state), &hex(goal));
+                said(next, say_next)
+            }
+            ["apply", sheet, state, machine, command] => self.apply(sheet, state, machine, command),
+            _ => panic!("unknown call {call:?}"),
+        }
+    }
+}
+
+fn say_next(next: Next) -> String {
+    match next {
+        Next::Done => "done".to_string(),
+        Next::Send(Command { machine, command }) => format!("command {machine} {command}"),
+    }
+}
+
+#[test]
+fn recorded_calls_have_the_recorded_replies() {
+    let Some(folder) = folder() else { return };
+    let text = fs::read_to_string(folder.join("calls.txt")).expect("calls.txt");
+    let mut blobs = Blobs::default();
+    let fields = |line| str::split(line, ' ').collect::<Vec<_>>();
+    for line in text.lines().filter(|line| line.starts_with("blob ")) {
+        let fields = fields(line);
+        blobs.by_name.insert(fields[1].to_string(), hex(fields[2]));
+    }
+    let calls: Vec<_> = text
+        .lines()
+        .filter_map(|line| line.split_once(" = "))
+        .collect();
+    for (call, expected) in &calls {
+        assert_eq!(&blobs.reply(&fields(call), expected), expected, "{call}");
+    }
+    assert!(!calls.is_empty(), "calls.txt holds no calls");
+    say(format!("{} recorded calls agree", calls.len()));
+}
+
+#[test]
+fn recorded_walks_print_the_recorded_text() {
+    let Some(folder) = folder() else { return };
+    let mut count = 0;
+    for entry in fs::read_dir(folder).expect("the vectors") {
+        let path = entry.expect("an entry").path();
+        if path.is_dir() {
+            let read = |name| fs::read(path.join(name)).unwrap_or_default();
+            let expected = fs::read_to_string(path.join("expect.txt")).expect("expect.txt");
+            let printed = walk(&read("sheet.bin"), &read("state.bin"), &read("wish.bin"));
+            assert_eq!(printed, expected, "{}", path.display());
+            count += 1;
+        }
+    }
+    assert!(count > 0, "no case folders");
+    say(format!("{count} recorded walks agree"));
+}

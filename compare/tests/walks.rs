@@ -1,0 +1,48 @@
+//! Random sheets walked: an attainable goal is reached within the bound.
+
+use duty_compare::command::{apply, next_command, Next};
+use duty_compare::random::{goal, sheet, state, Random};
+use duty_compare::sheet::Sheet;
+use duty_compare::walk::{bound_of, own_plan};
+
+/// Obeys a plan until it is done; how many commands that took, or none where
+/// the first reply is a refusal.
+fn obeyed(sheet: &[u8], plan: &[u8], state: &mut [u8], goal: &[u8]) -> Option<u32> {
+    let mut next = next_command(sheet, plan, state, goal).ok()?;
+    let mut count = 0;
+    while let Next::Send(command) = next {
+        assert_eq!(
+            apply(sheet, state, command),
+            Ok(true),
+            "a command that does not act"
+        );
+        count += 1;
+        assert!(count <= bound_of(plan), "past the bound");
+        next = next_command(sheet, plan, state, goal).expect("attainable goals stay so");
+    }
+    Some(count)
+}
+
+#[test]
+fn attainable_goals_are_reached_within_the_bound() {
+    let mut walked = 0;
+    for seed in 0..4000 {
+        let random = &mut Random::new(seed);
+        let bytes = sheet(random);
+        let read = Sheet::read(&bytes).unwrap_or_else(|refusal| panic!("seed {seed}: {refusal:?}"));
+        let Ok(plan) = own_plan(&bytes) else { continue };
+        for _ in 0..4 {
+            let (mut state, goal) = (state(random, &read), goal(random, &read));
+            let Some(count) = obeyed(&bytes, &plan, &mut state, &goal) else {
+                continue;
+            };
+            let met = goal
+                .iter()
+                .zip(&state)
+                .all(|(mask, mode)| mask >> mode & 1 == 1);
+            assert!(met, "seed {seed}: done too early");
+            walked += (count > 0) as u32;
+        }
+    }
+    assert!(walked > 1000, "only {walked} walks had a command");
+}

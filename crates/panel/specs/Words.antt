@@ -1,0 +1,14 @@
+-- The 64-bit replies of the C interface: above the refusal's number, or 0; below its place, or the value.
+use Prim.Native.Nat.{ℕ, _+_, _*_}
+use Rattle.common.specs.Reply.{Reply, given, refused}
+use Rattle.sheet.specs.Model.{machineCount, moveCount}
+use Rattle.sheet.specs.Parse.{Parsed}
+
+abbrev pub wordOf : Reply ℕ → ℕ
+wordOf (given value) = value
+wordOf (refused number place) = 4294967296 * number + place
+
+-- checking a sheet: 256 × moves + machines
+abbrev pub sheetReply : Reply Parsed → Reply ℕ
+sheetReply (given d) = given (256 * moveCount (d .model) + machineCount (d .model))
+sheetReply (refused number place) = refused number place

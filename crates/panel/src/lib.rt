@@ -1,0 +1,29 @@
+// The C interface: exported functions that put replies into 64 bits. Nothing is decided here.
+use sheet::refusal::Cause;
+use sheet::refusal::Verdict;
+ghost use mathlib.Core.Path.{_≡_};
+ghost use Prim.Native.Nat.{_+_, _*_, _≤_};
+ghost use Rattle.sheet.specs.Refusal.{numberOf};
+ghost use Rattle.sheet.specs.Parse.{parse};
+ghost use Rattle.panel.specs.Words.{wordOf, sheetReply};
+
+// The word of a refusal.
+fn refusal(cause: Cause, place: usize) -> u64
+    requires { ⌜ place ≤ 6196 ⌝ }
+    ensures { λ r. ⌜ r ≡ 4294967296 * numberOf cause + place ⌝ }
+{
+    4294967296 * (sheet::refusal::number(cause) as u64) + place as u64
+}
+
+// Checks a sheet: 256 × moves + machines, or the refusal.
+#[no_mangle]
+pub extern "C" fn duty_sheet(file: &[u8]) -> u64
+    ensures { λ r. ⌜ r ≡ wordOf (sheetReply (parse (now (file .entry)))) ⌝ }
+{
+    let reading = sheet::scan::read(file);
+    let verdict = reading.verdict;
+    let Verdict::Refused(cause, place) = verdict else {
+        return 256 * (reading.sheet.moves as u64) + reading.sheet.machines as u64;
+    };
+    refusal(cause, place)
+}

@@ -1,0 +1,33 @@
+/* The kitchen duty planner for C.
+ *
+ * The caller lends byte slices, each as a pointer and a length, and keeps
+ * them; nothing is allocated or held between calls. A refused call leaves
+ * every lent byte as it was.
+ *
+ * Each function answers 64 bits: the upper 32 are the refusal's number, or 0
+ * if the call was accepted; the lower 32 are the refusal's place, or the value.
+ */
+#ifndef DUTY_H
+#define DUTY_H
+
+#include <stddef.h>
+#include <stdint.h>
+
+#ifdef __cplusplus
+extern "C" {
+#endif
+
+/* The refusal's number, 0 if there is none. */
+static inline uint32_t duty_refusal(uint64_t reply) { return (uint32_t)(reply >> 32); }
+
+/* The place of a refusal, or the value of an accepted call. */
+static inline uint32_t duty_value(uint64_t reply) { return (uint32_t)reply; }
+
+/* Checks a sheet (refusals 1 to 8). Value: 256 * moves + machines. */
+uint64_t duty_sheet(const uint8_t *sheet, size_t n);
+
+#ifdef __cplusplus
+}
+#endif
+
+#endif
