@@ -8,4 +8,5 @@ pub mod Goal
 pub mod Next
 pub mod Run
 pub mod State
+pub mod Uncovered
 pub mod Walk

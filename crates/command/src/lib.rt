@@ -1,1 +1,2 @@
-// Commands: states, goals, the next command, applying one, and runs. Definitions and what they promise; no code yet.
+// Commands: states, goals, the next command, applying one, and runs.
+pub mod promises;

@@ -1,6 +1,8 @@
 pub mod Bits
 pub mod Bools
+pub mod Clear
 pub mod Graph
+pub mod Least
 pub mod Lists
 pub mod Members
 pub mod Pad
@@ -9,4 +11,6 @@ pub mod Reply
 pub mod Search
 pub mod Snoc
 pub mod Sums
+pub mod SumsBelow
 pub mod Tests
+pub mod When

@@ -17,6 +17,7 @@ pub mod Planned
 pub mod Planning
 pub mod Radix
 pub mod ReadBack
+pub mod Replies
 pub mod Rounds
 pub mod Routes
 pub mod Steps

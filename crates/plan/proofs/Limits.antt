@@ -20,6 +20,7 @@ use Rattle.plan.specs.Modes.{size}
 use Rattle.plan.specs.Routes.{routesUpto}
 use Rattle.plan.specs.Bound.{boundOf}
 use Rattle.plan.specs.Bytes.{planLength}
+use Rattle.plan.specs.Meaning.{FirstLarge}
 use Rattle.plan.specs.Planning.{large, largeGroup, largePlace, largePlan, largeBound, wrongBuffer}
 
 -- What each test tells
@@ -58,16 +59,6 @@ memberless : (m : Model) (groups : Grouping) (k : ℕ) → any (inGroup groups k
     → size m groups k ≡ 1
 unfolding size members product
 memberless m groups k f = rw (filter-none (inGroup groups k) (upTo (length groups)) f)
-
--- the smallest machine of the lowest-numbered group of more than 64 modes
-pub record FirstLarge (m : Model) (groups : Grouping) (place : ℕ) : Type 0 where
-  pub group : ℕ
-  pub present : group < groupCount groups
-  pub large : 64 < size m groups group
-  pub lower : (k : ℕ) → k < group → size m groups k ≤ 64
-  pub machine : place < length groups
-  pub member : groupOf groups place ≡ group
-  pub smallest : (i : ℕ) → groupOf groups i ≡ group → place ≤ i
 
 pub large-place : (m : Model) (groups : Grouping) → largeGroup m groups ≡ true
     → FirstLarge m groups (largePlace m groups)

@@ -24,6 +24,7 @@ use Rattle.plan.proofs.Usable.{stays-live}
 use Rattle.plan.proofs.Distances.{route-append, route-zero, between-longest}
 use Rattle.plan.proofs.Entries.{entry-near, near-of-distance, entry-route, entry-at-most, entry-connects}
 use Rattle.plan.proofs.Entries.{entry-right}
+use Rattle.plan.proofs.EntryBytes.{entry-bytes}
 use Rattle.plan.proofs.Costs.{costOf, cost-rule, bound-sum}
 
 -- what a plan says over these groups is what is computed from them
@@ -75,6 +76,12 @@ module _ (m : Model) (groups : Grouping) (plan : List ℕ) (reads : ReadsBack m 
           between-longest m groups (reads .first) h p q hp hq (b .0),
         ))
 
+  pub own-bytes : Valid m → (k p q : ℕ) → k < groupCount groups → p < size m groups k → q < size m groups k
+      → entryAt m plan k p q .distance ≤ 255
+  own-bytes valid k p q h hp hq =
+      rw (reads .entry-read k p q h hp hq)
+      (omega (arith, entry-bytes m valid groups (reads .first) h (reads .small k h) p q hp hq .0))
+
   -- a usable move's needs on an outside group can be met from every live mode
   pub own-met : (v a p : ℕ) → Usable m groups v
       → List·Memᴰ a (namedOutside m groups (groupOf groups (moveAt m v .machine)) (v ∷ []))
@@ -112,6 +119,7 @@ module _ (m : Model) (valid : Valid m) (plan : List ℕ) (reads : ReadsBack m (g
   laws-of-plan =
       record {
         shaped = reads .shaped;
+        byte-entries = own-bytes m own plan reads valid;
         zero-self = λ k p h hp. ap (λ e. e .distance) (entries k p p h hp hp .itself refl);
         self-zero = λ k p q h hp hq z. route-zero (entries k p q h hp hq .shortest 0 (λ e. omega arith) .0 z .0);
         first-move = own-first;

@@ -16,11 +16,12 @@ use Rattle.plan.specs.Modes.{size, modeIn}
 use Rattle.plan.specs.Reading.{groupsIn, boundIn}
 use Rattle.plan.specs.Bytes.{bytesOf}
 use Rattle.plan.specs.Planning.{planReply, ownPlan}
-use Rattle.plan.specs.Meaning.{ModesRight, PlanRight, Planned}
+use Rattle.plan.specs.Meaning.{ModesRight, UsableRight, PlanRight, Planned}
+use Rattle.plan.specs.Laws.{Lawful}
 use Rattle.plan.proofs.Modes.{modeNumber-below, modeIn-below, modeIn-modeNumber, modeNumber-modes, member-below}
 use Rattle.plan.proofs.Groups.{groups-right, gapless-test, needs-first-test}
 use Rattle.plan.proofs.Routes.{allRoutes}
-use Rattle.plan.proofs.Usable.{stays-live}
+use Rattle.plan.proofs.Usable.{usable-means, means-usable, stays-live}
 use Rattle.plan.proofs.ReadBack.{groups-read, entry-read, bound-read, shaped}
 use Rattle.plan.proofs.Planning.{length-groupsOf, Accepted, accepted-writable, accepted-length, plan-accepted}
 use Rattle.plan.proofs.OwnLaws.{ReadsBack, LawsFor, own-entry, own-laws}
@@ -93,3 +94,11 @@ planned-lawful sheet plan buffer scratch d e r =
     let v = parse-valid sheet e in
     subst (λ p. LawsFor (d .model) p (groupsOf (d .model))) (sym (a .own))
     (own-lawful (d .model) v (subst (λ p. Accepted (d .model) p buffer scratch) (a .own) a))
+
+pub lawful : Lawful
+lawful sheet plan buffer scratch d e r = (_, _, planned-lawful sheet plan buffer scratch d e r)
+
+pub usable-right : (m : Model) → Valid m → UsableRight m (groupsOf m)
+usable-right m valid v h =
+    let first = needs-first-test valid (groups-right m valid) in
+    (usable-means m (groupsOf m) first v h, means-usable m (groupsOf m) first v h)

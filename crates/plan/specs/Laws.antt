@@ -4,10 +4,14 @@ use mathlib.Core.Path.{_≡_}
 use mathlib.Core.List.{List, _∷_, [], map, List·Memᴰ}
 use mathlib.Core.Bool.{true}
 use Rattle.common.specs.Lists.{upTo, sum}
-use Rattle.sheet.specs.Model.{Model, machineCount, moveCount, moveAt}
-use Rattle.plan.specs.Groups.{Grouping, groupOf, groupCount, movesOf, namedOutside}
+use Rattle.common.specs.Reply.{given}
+use Rattle.sheet.specs.Model.{Model, moveCount, moveAt}
+use Rattle.sheet.specs.Parse.{Parsed, parse}
+use Rattle.plan.specs.Groups.{Grouping, groupOf, groupCount, groupsOf, movesOf, namedOutside}
 use Rattle.plan.specs.Modes.{size, liveMode}
 use Rattle.plan.specs.Usable.{meets, leads, target}
+use Rattle.plan.specs.Meaning.{Usable}
+use Rattle.plan.specs.Planning.{planReply}
 use Rattle.plan.specs.Reading.{groupsIn, entryAt, boundIn, wellShaped}
 
 -- a distance of the plan that is a route
@@ -25,6 +29,9 @@ module _ (m : Model) (plan : List ℕ) where
   -- `Usable` says which moves are usable, `longest` and `cost` give L and the cost of each group
   pub record PlanLaws (Usable : ℕ → Type 0) (longest cost : ℕ → ℕ) : Type 0 where
     pub shaped : wellShaped m plan ≡ true
+    -- entries are bytes
+    pub byte-entries : (k p q : ℕ) → k < groupCount own → p < size m own k → q < size m own k
+        → entryAt m plan k p q .distance ≤ 255
     -- 1: the distance is 0 exactly from a mode to itself
     pub zero-self : (k p : ℕ) → k < groupCount own → p < size m own k → entryAt m plan k p p .distance ≡ 0
     pub self-zero : (k p q : ℕ) → k < groupCount own → p < size m own k → q < size m own k
@@ -53,3 +60,9 @@ module _ (m : Model) (plan : List ℕ) where
     pub cost-is : (k : ℕ) → k < groupCount own
         → cost k ≡ longest k * (1 + sum (map cost (namedOutside m own k (movesOf m own k))))
     pub bound-is : boundIn m plan ≡ sum (map cost (upTo (groupCount own)))
+
+-- The plan that planning writes has them.
+abbrev pub Lawful : Type 0
+Lawful =
+    (sheet plan : List ℕ) (buffer scratch : ℕ) (d : Parsed) → parse sheet ≡ given d → planReply sheet buffer scratch ≡ given plan
+    → (longest : ℕ → ℕ) × (cost : ℕ → ℕ) × PlanLaws (d .model) plan (Usable (d .model) (groupsOf (d .model))) longest cost

@@ -6,16 +6,18 @@ use mathlib.Core.List.{List, [], _∷_, map, List·Memᴰ}
 use mathlib.Core.Bool.{true}
 use lib.ListN.{length, getD}
 use Rattle.common.specs.Lists.{upTo, sum}
-use Rattle.common.specs.Reply.{given}
-use Rattle.sheet.specs.Model.{Model, machineCount, modeCount, moveAt}
+use Rattle.common.specs.Reply.{given, refused}
+use Rattle.sheet.specs.Model.{Model, machineCount, modeCount, moveCount, moveAt}
 use Rattle.sheet.specs.Parse.{Parsed, parse}
 use Rattle.plan.specs.Needs.{needs, Reaches}
 use Rattle.plan.specs.Groups.{Grouping, groupOf, groupCount, members, smallestMember, groupsOf, namedOutside, movesOf}
 use Rattle.plan.specs.Modes.{Fits, size, modeNumber, modeIn, liveMode}
-use Rattle.plan.specs.Usable.{meets, leads, target}
+use Rattle.plan.specs.Usable.{meets, leads, target, usable}
+use Rattle.plan.specs.Routes.{routesUpto}
+use Rattle.plan.specs.Bound.{boundOf}
 use Rattle.plan.specs.Table.{Entry, entry, noRoute}
 use Rattle.plan.specs.Bytes.{planLength}
-use Rattle.plan.specs.Planning.{planReply}
+use Rattle.plan.specs.Planning.{lengthReply, planReply, ownPlan}
 use Rattle.plan.specs.Reading.{groupsIn, entryAt, boundIn, wellShaped}
 
 -- "The groups are exactly the sets of machines that need one another, directly or through others,
@@ -95,6 +97,50 @@ pub record ModesRight (m : Model) (groups : Grouping) (k : ℕ) : Type 0 where
       → modeIn m groups k (modeNumber m groups k state) i ≡ getD state i 0
   pub back-and-there : (p : ℕ) → p < size m groups k
       → modeNumber m groups k (map (modeIn m groups k p) (upTo (machineCount m))) ≡ p
+
+-- What is computed as usable is what is usable.
+abbrev pub UsableRight : Model → Grouping → Type 0
+UsableRight m groups =
+    (v : ℕ) → v < moveCount m → (usable m groups (routesUpto m groups (groupCount groups)) v ≡ true) ↔ Usable m groups v
+
+-- the place of 9: the smallest machine of the lowest-numbered group of more than 64 modes
+pub record FirstLarge (m : Model) (groups : Grouping) (place : ℕ) : Type 0 where
+  pub group : ℕ
+  pub present : group < groupCount groups
+  pub large : 64 < size m groups group
+  pub lower : (k : ℕ) → k < group → size m groups k ≤ 64
+  pub machine : place < length groups
+  pub member : groupOf groups place ≡ group
+  pub smallest : (i : ℕ) → groupOf groups i ≡ group → place ≤ i
+
+-- no group of more than 64 modes; the squares of the mode counts, summed
+abbrev pub SmallGroups : Model → Grouping → Type 0
+SmallGroups m groups = (k : ℕ) → k < groupCount groups → size m groups k ≤ 64
+
+abbrev pub squares : Model → Grouping → ℕ
+squares m groups = sum (map (λ k. size m groups k * size m groups k) (upTo (groupCount groups)))
+
+abbrev pub ownBound : Model → ℕ
+ownBound m = boundOf m (groupsOf m) (routesUpto m (groupsOf m) (groupCount (groupsOf m)))
+
+-- 9 to 12 are tested in this order, and the first that applies refuses; the length is refused for 9 and 10 alone.
+pub record RepliesRight (sheet : List ℕ) (m : Model) (buffer scratch : ℕ) : Type 0 where
+  pub nine : (k : ℕ) → k < groupCount (groupsOf m) → 64 < size m (groupsOf m) k
+      → (place : ℕ) × FirstLarge m (groupsOf m) place × (planReply sheet buffer scratch ≡ refused 9 place)
+      × (lengthReply sheet ≡ refused 9 place)
+  pub ten : SmallGroups m (groupsOf m) → 16384 < squares m (groupsOf m)
+      → (planReply sheet buffer scratch ≡ refused 10 0) × (lengthReply sheet ≡ refused 10 0)
+  pub eleven : SmallGroups m (groupsOf m) → squares m (groupsOf m) ≤ 16384 → 65535 < ownBound m
+      → planReply sheet buffer scratch ≡ refused 11 0
+  pub twelve : SmallGroups m (groupsOf m) → squares m (groupsOf m) ≤ 16384 → ownBound m ≤ 65535
+      → (buffer ≡ planLength m (groupsOf m) → scratch ≡ 4096 → ⊥) → planReply sheet buffer scratch ≡ refused 12 0
+  pub accepted : SmallGroups m (groupsOf m) → squares m (groupsOf m) ≤ 16384 → ownBound m ≤ 65535
+      → buffer ≡ planLength m (groupsOf m) → scratch ≡ 4096 → planReply sheet buffer scratch ≡ given (ownPlan m)
+  pub reported : SmallGroups m (groupsOf m) → squares m (groupsOf m) ≤ 16384
+      → lengthReply sheet ≡ given (planLength m (groupsOf m))
+
+abbrev pub Replied : Type 0
+Replied = (sheet : List ℕ) (d : Parsed) (buffer scratch : ℕ) → parse sheet ≡ given d → RepliesRight sheet (d .model) buffer scratch
 
 -- Demand 2 for a sheet that planning accepts and the plan that it wrote.
 pub record PlanRight (m : Model) (plan : List ℕ) : Type 0 where

@@ -1,1 +1,2 @@
-// The plan: groups of machines, routes within them, and the plan's bytes. Definitions and what they mean; no code yet.
+// The plan: groups of machines, routes within them, the bound, and the plan's bytes.
+pub mod promises;

@@ -140,13 +140,13 @@ pub fn key_of(body: &[u8]) -> u16
 
 // Whether a key is among the first of some keys.
 fn repeated(keys: &[u16], moves: usize, key: u16) -> bool
-    requires { ⌜ moves ≤ length (now keys) ⌝ }
+    requires { ⌜ (moves ≤ length (now keys)) × (moves ≤ 250) ⌝ }
     ensures { λ r. ⌜ r ≡ any (eqb key) (take moves (now (keys .entry))) ⌝ }
 {
-    let mut hits: usize = 0;
+    let mut hits: u16 = 0;
     let mut i: usize = 0;
     while i < moves {
-        hits += (key == keys[i]) as usize;
+        hits += (key == keys[i]) as u16;
         i += 1;
     }
     0 < hits

@@ -1,0 +1,104 @@
+-- The move that is sent: it acts, it moves the highest unmet group or one upstream of it, and what it leaves.
+-- Assumes nothing.
+use Prim.Native.Nat.{ℕ, _<_}
+use mathlib.Core.Path.{_≡_, refl}
+use mathlib.Core.Logic.{_⊎_, inl, inr, ⊎-elim}
+use mathlib.Core.List.{List, List·Memᴰ}
+use mathlib.Core.Bool.{true, false}
+use native.Mathlib.Omega.{arith}
+use lib.ListN.{set}
+use Rattle.common.proofs.Least.{last-or-below}
+use Rattle.sheet.specs.Model.{Model, moveAt}
+use Rattle.sheet.specs.Valid.{Valid}
+use Rattle.plan.specs.Groups.{movesOf}
+use Rattle.plan.specs.Usable.{leads, target}
+use Rattle.plan.specs.Laws.{PlanLaws}
+use Rattle.command.specs.Goal.{Masks, met}
+use Rattle.command.specs.Ancestors.{upstream}
+use Rattle.command.specs.Attainable.{groups, present}
+use Rattle.command.specs.Covered.{Attains}
+use Rattle.command.specs.Next.{holdsOutside}
+use Rattle.command.proofs.Facts
+use Rattle.command.proofs.Facts.{Sound}
+use Rattle.command.proofs.Heading
+use Rattle.command.proofs.Heading.{Heading}
+use Rattle.command.proofs.Sends.{Sends, lower, own, prepares}
+
+-- move v of group j is usable, leads from the group's present mode, and its needs hold
+pub record Acting (m : Model) (plan : List ℕ) (Usable : ℕ → Type 0) (state : List ℕ) (j v : ℕ) : Type 0 where
+  pub member : List·Memᴰ v (movesOf m (groups m plan) j)
+  pub usable : Usable v
+  pub leading : leads m (groups m plan) j (moveAt m v) (present m plan state j) ≡ true
+  pub outside : holdsOutside m plan state j (moveAt m v) ≡ true
+
+module _ (m : Model) (plan state : List ℕ) where
+  -- the highest unmet group below g: v is a move of it that leaves a route to an allowed mode, or j is upstream of it
+  pub record Highest (masks : Masks) (g j v : ℕ) : Type 0 where
+    pub top : ℕ
+    pub top-below : top < g
+    pub top-unmet : met (groups m plan) masks state top ≡ false
+    pub above-met : (a : ℕ) → top < a → a < g → met (groups m plan) masks state a ≡ true
+    pub way :
+        ((j ≡ top) × Attains m plan masks state j (target m (groups m plan) j (moveAt m v) (present m plan state j)))
+        ⊎ (upstream m (groups m plan) top j ≡ true)
+
+  -- the state that the move leaves
+  pub record Moves (state′ : List ℕ) (j v : ℕ) : Type 0 where
+    pub sound : Sound m state′
+    pub there : present m plan state′ j ≡ target m (groups m plan) j (moveAt m v) (present m plan state j)
+    pub elsewhere : (a : ℕ) → (a ≡ j → ⊥) → present m plan state′ a ≡ present m plan state a
+
+module _ {m : Model} {plan : List ℕ} {Usable : ℕ → Type 0} {state : List ℕ} where
+  pub sends-below : {masks : Masks} {g j v : ℕ} → Sends m plan Usable state masks g j v → j < g
+  sends-below (lower e s) = omega (arith, sends-below s)
+  sends-below (own e h i o) = omega arith
+  sends-below (prepares e h s) = omega (arith, sends-below s)
+
+  pub sends-acting : {masks : Masks} {g j v : ℕ} → Sends m plan Usable state masks g j v → Acting m plan Usable state j v
+  sends-acting (lower e s) = sends-acting s
+  sends-acting (own e h i o) =
+      record { member = rw i (h .member); usable = rw i (h .usable); leading = rw i (h .leading); outside = o }
+  sends-acting (prepares e h s) = sends-acting s
+
+module _ {m : Model} {plan : List ℕ} {Usable : ℕ → Type 0} {longest cost : ℕ → ℕ} (valid : Valid m)
+    (laws : PlanLaws m plan Usable longest cost) {state : List ℕ} (sound : Sound m state) where
+  pub sends-highest : {masks : Masks} {g j v : ℕ} → Sends m plan Usable state masks g j v
+      → Highest m plan state masks g j v
+  sends-highest {j} {v} (lower {k} e s) =
+      let r = sends-highest s in
+      record {
+        top = r .top;
+        top-below = omega (arith, r .top-below);
+        top-unmet = r .top-unmet;
+        above-met = λ a h l. ⊎-elim (λ i. rw i e) (λ i. r .above-met a h i) (last-or-below l);
+        way = r .way;
+      }
+  sends-highest (own {masks} {k} {v} e h i o) =
+      record {
+        top = k;
+        top-below = omega arith;
+        top-unmet = e;
+        above-met = λ a l b. absurd (let f : ⊥ = omega arith in f);
+        way = inl (refl, rw i (_, h .end-below, h .end-allowed, omega (arith, h .nearer, h .far)));
+      }
+  sends-highest (prepares {masks} {k} {j} {v} e h s) =
+      let r = sends-highest s in
+      let u = Heading.unmet-up valid laws sound k _ (h .member) (r .top) (r .top-unmet) in
+      let on = Facts.upstream-trans m valid plan (laws .shaped) k in
+      record {
+        top = k;
+        top-below = omega arith;
+        top-unmet = e;
+        above-met = λ a l b. absurd (let f : ⊥ = omega arith in f);
+        way = inr (⊎-elim (λ w. rw (w .0) u) (λ w. on (r .top) j u w) (r .way));
+      }
+
+  pub acting-moves : {j v : ℕ} → Acting m plan Usable state j v
+      → Moves m plan state (set state (moveAt m v .machine) (moveAt m v .to)) j v
+  acting-moves {j} {v} a =
+      let shaped = laws .shaped in
+      record {
+        sound = Facts.applied-sound m valid plan shaped j v (a .member) state sound (a .leading) (a .outside);
+        there = Facts.applied-target m valid plan shaped j v (a .member) state sound (a .leading) (a .outside);
+        elsewhere = Facts.applied-elsewhere m valid plan shaped j v (a .member) state sound (a .leading) (a .outside);
+      }

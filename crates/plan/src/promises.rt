@@ -1,0 +1,37 @@
+// What the definitions of a plan mean, as theorems. A function here does nothing: its contract is the theorem.
+ghost use Prim.Native.Nat.{ℕ};
+ghost use Rattle.sheet.specs.Model.{Model};
+ghost use Rattle.sheet.specs.Valid.{Valid};
+ghost use Rattle.plan.specs.Groups.{groupsOf};
+ghost use Rattle.plan.specs.Laws.{Lawful};
+ghost use Rattle.plan.specs.Meaning.{GroupsRight, ModesRight, Planned, Replied, UsableRight};
+
+// The groups are exactly the sets of machines that need one another, numbered so that needs come first.
+pub fn groups_are_right()
+    ensures { λ _. ⌜ ((m : Model) → Valid m → GroupsRight m (groupsOf m)) ⌝ }
+{}
+
+// A group mode's number and its machines' modes translate both ways.
+pub fn modes_are_right()
+    ensures { λ _. ⌜ ((m : Model) → Valid m → (k : ℕ) → ModesRight m (groupsOf m) k) ⌝ }
+{}
+
+// A move is computed as usable exactly if it is usable by its meaning.
+pub fn usable_is_right()
+    ensures { λ _. ⌜ ((m : Model) → Valid m → UsableRight m (groupsOf m)) ⌝ }
+{}
+
+// The replies of planning and of the plan's length: 9 to 12, the first that applies.
+pub fn replies_are_right()
+    ensures { λ _. ⌜ Replied ⌝ }
+{}
+
+// Demand 2: the plan that planning wrote is right, entry by entry, with its bound and its bytes.
+pub fn plan_is_right()
+    ensures { λ _. ⌜ Planned ⌝ }
+{}
+
+// The plan that planning wrote has the laws that arrival rests on.
+pub fn plan_is_lawful()
+    ensures { λ _. ⌜ Lawful ⌝ }
+{}
