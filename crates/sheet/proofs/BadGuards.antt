@@ -1,21 +1,21 @@
 -- A move judged by 7, need by need and test by test.
 -- Assumes nothing.
-use Prim.Native.Nat.{ℕ, zero, suc, _+_, _-_, _*_, _/_, _≤_, _<_}
+use Prim.Native.Nat.{ℕ, _+_, _-_, _*_, _/_, _≤_, _<_}
 use mathlib.Core.Path.{_≡_, refl, sym, ap, _∙_}
 use mathlib.Core.Bool.{Bool, true, false, _&&_, _||_}
 use mathlib.Core.List.{List, [], _∷_}
 use native.Mathlib.Omega.{arith}
 use native.Mathlib.Numerals.{add-one}
-use borrow.Author.Tests.{le-ltb, lt-ltb, ltb-true, eq-eqb, ne-eqb}
+use borrow.Author.Tests.{ltb-true, eq-eqb, ne-eqb}
 use lib.Dec.{eqb, ltb, leb}
-use lib.ListN.{length, getD, List·getD-eq-default}
+use lib.ListN.{length, getD}
 use Rattle.common.specs.Lists.{upTo, any}
 use Rattle.common.specs.Bits.{beyond}
 use Rattle.common.proofs.Bools.{by-cases}
-use Rattle.common.proofs.Members.{getD-map-upTo, length-map-upTo, upTo-mem}
+use Rattle.common.proofs.Members.{getD-map-upTo, upTo-mem}
 use Rattle.common.proofs.Lists.{any-append, any-intro}
 use Rattle.sheet.specs.Record.{byte}
-use Rattle.sheet.specs.Model.{Guard, Move, guard, guardAt, moveOf}
+use Rattle.sheet.specs.Model.{Guard, guard, guardAt, moveOf}
 use Rattle.sheet.specs.Faults.{badGuard, badGuards}
 use Rattle.sheet.proofs.Guards.{guard-count, guard-here}
 

@@ -1,16 +1,14 @@
 -- A move judged by 6, test by test.
 -- Assumes nothing.
-use Prim.Native.Nat.{ℕ, _+_, _*_, _≤_, _<_}
-use mathlib.Core.Path.{_≡_, refl, sym, ap, _∙_}
+use Prim.Native.Nat.{ℕ, _≤_, _<_}
+use mathlib.Core.Path.{_≡_, sym, _∙_}
 use mathlib.Core.Bool.{Bool, true, false, not, _||_}
 use mathlib.Core.List.{List}
-use native.Mathlib.Omega.{arith}
-use borrow.Author.Tests.{leb-false, le-leb, lt-leb, eq-eqb, ne-eqb}
+use borrow.Author.Tests.{le-leb, lt-leb, eq-eqb, ne-eqb}
 use lib.Dec.{eqb, leb}
-use lib.ListN.{length, getD}
 use Rattle.common.specs.Bits.{bit}
 use Rattle.sheet.specs.Record.{byte}
-use Rattle.sheet.specs.Model.{Move, moveOf}
+use Rattle.sheet.specs.Model.{moveOf}
 use Rattle.sheet.specs.Faults.{badMove}
 
 module _ (modes live body : List ℕ) {i count : ℕ} (e : i ≡ byte body 0) (k : count ≡ byte modes i) where

@@ -1,24 +1,22 @@
 -- Judging by the arrays is judging by the model that they hold.
 -- Assumes nothing.
-use Prim.Native.Nat.{ℕ, zero, suc, _+_, _*_, _≤_, _<_}
-use mathlib.Core.Path.{_≡_, refl, sym, ap, ap₂, _∙_}
-use mathlib.Core.Bool.{Bool, true, false, not, _||_, _&&_}
+use Prim.Native.Nat.{ℕ, _≤_, _<_}
+use mathlib.Core.Path.{_≡_, sym, _∙_}
+use mathlib.Core.Bool.{Bool, true, false}
 use mathlib.Core.List.{List, [], _∷_}
 use native.Mathlib.Omega.{arith}
-use native.Mathlib.Nat.{le-trans}
 use borrow.Author.Tests.{leb-false, ltb-false, lt-ltb, le-ltb, le-leb, lt-leb, eq-eqb, ne-eqb}
-use lib.Dec.{eqb, ltb, leb}
-use lib.ListN.{length, getD, take, List·getD-eq-default}
+use lib.Dec.{eqb, ltb}
+use lib.ListN.{length, take}
 use Rattle.common.specs.Lists.{any, upTo, pad}
-use Rattle.common.specs.Bits.{bit, beyond}
-use Rattle.common.specs.Reply.{Reply, given, refused, Fault, fault, unless}
-use Rattle.common.proofs.Bools.{by-cases, or-false-left, or-false-right}
+use Rattle.common.specs.Reply.{refused, fault, unless}
+use Rattle.common.proofs.Bools.{or-false-left, or-false-right}
 use Rattle.common.proofs.Lists.{any-cong}
 use Rattle.common.proofs.Pad.{getD-pad}
 use Rattle.sheet.specs.Record.{byte}
-use Rattle.sheet.specs.Model.{Guard, Move, Model, machineCount, moveCount, modeCount, guardAt, moveOf}
-use Rattle.sheet.specs.Faults.{wrongMoveLength, badMachine, badMove, badGuard, badGuards, sameMove, badCommand}
-use Rattle.sheet.specs.Faults.{machineFaults, moveFaults, endFaults}
+use Rattle.sheet.specs.Model.{Move, Model, machineCount, moveCount, modeCount, guardAt, moveOf}
+use Rattle.sheet.specs.Faults.{wrongMoveLength, badMachine, badMove, badGuard, badGuards, badCommand}
+use Rattle.sheet.specs.Faults.{machineFaults, moveFaults}
 use Rattle.sheet.specs.Held.{keyOf, fine, Small, Held}
 use Rattle.sheet.specs.Valid.{ValidMove}
 use Rattle.sheet.proofs.Fits.{has-modes}
@@ -36,8 +34,9 @@ pad-bad-guards modes v =
     (λ n _. rw (getD-pad 32 modes (guardAt v n .machine)))
 
 -- a move that passes 6 has small numbers
-pub small-move : (m : Model) {machines moves : ℕ} {modes live keys : List ℕ} (body : List ℕ) → Held m machines moves modes live keys
-    → byte body 0 < machineCount m → byte body 1 < modeCount m (byte body 0) → byte body 3 < 256 → Small (moveOf body)
+pub small-move : (m : Model) {machines moves : ℕ} {modes live keys : List ℕ} (body : List ℕ)
+    → Held m machines moves modes live keys → byte body 0 < machineCount m → byte body 1 < modeCount m (byte body 0)
+    → byte body 3 < 256 → Small (moveOf body)
 unfolding moveOf
 small-move m body h present from last =
     record {
@@ -46,13 +45,14 @@ small-move m body h present from last =
       command = last;
     }
 
-pub valid-small : (m : Model) {machines moves : ℕ} {modes live keys : List ℕ} (body : List ℕ) → Held m machines moves modes live keys
-    → ValidMove m (moveOf body) → byte body 3 < 256 → Small (moveOf body)
+pub valid-small : (m : Model) {machines moves : ℕ} {modes live keys : List ℕ} (body : List ℕ)
+    → Held m machines moves modes live keys → ValidMove m (moveOf body) → byte body 3 < 256 → Small (moveOf body)
 unfolding moveOf
 valid-small m body h v last = small-move m body h (v .present) (v .from-present) last
 
-passed-small : (m : Model) {machines moves : ℕ} {modes live keys : List ℕ} (body : List ℕ) → Held m machines moves modes live keys
-    → badMove (m .modes) (m .live) (moveOf body) ≡ false → byte body 3 < 256 → Small (moveOf body)
+passed-small : (m : Model) {machines moves : ℕ} {modes live keys : List ℕ} (body : List ℕ)
+    → Held m machines moves modes live keys → badMove (m .modes) (m .live) (moveOf body) ≡ false → byte body 3 < 256
+    → Small (moveOf body)
 unfolding badMove moveOf
 passed-small m body h f last =
     let from = leb-false _ _ (or-false-left _ _ (or-false-left _ _ (or-false-left _ _ (or-false-left _ _ f)))) in
@@ -85,7 +85,8 @@ module _ (m : Model) (at : ℕ) {machines moves : ℕ} (body : List ℕ) (e : ma
   unfolding unless machineFaults
   machine-many h g k = rw (eq-eqb _ _ h, f, le-ltb _ _ g, e, le-leb _ _ k)
 
-  module _ {a : Bool} (h : length body ≡ 2) (g : moves ≤ 0) (k : machines < 32) (b : a ≡ badMachine (byte body 0) (byte body 1)) where
+  module _ {a : Bool} (h : length body ≡ 2) (g : moves ≤ 0) (k : machines < 32)
+      (b : a ≡ badMachine (byte body 0) (byte body 1)) where
     pub machine-bad : a ≡ true → refused 5 at ≡ unless (machineFaults m at body) fine
     unfolding unless machineFaults
     machine-bad t = rw (eq-eqb _ _ h, f, le-ltb _ _ g, e, lt-leb _ _ k, ← b, t)
@@ -111,11 +112,13 @@ module _ (m : Model) (at : ℕ) {machines moves : ℕ} {modes live keys : List �
   unfolding unless moveFaults
   move-early t z = rw (← ea, t, h .machines-are, eq-eqb _ _ z)
 
-  pub move-many : a ≡ false → (machines ≡ 0 → ⊥) → 250 ≤ moves → refused 4 at ≡ unless (moveFaults m at body) fine
+  pub move-many : a ≡ false → (machines ≡ 0 → ⊥) → 250 ≤ moves
+      → refused 4 at ≡ unless (moveFaults m at body) fine
   unfolding unless moveFaults
   move-many t z k = rw (← ea, t, h .machines-are, ne-eqb _ _ z, h .moves-are, le-leb _ _ k)
 
-  module _ {b : Bool} (t : a ≡ false) (z : machines ≡ 0 → ⊥) (k : moves < 250) (eb : b ≡ badMove modes live (moveOf body)) where
+  module _ {b : Bool} (t : a ≡ false) (z : machines ≡ 0 → ⊥) (k : moves < 250)
+      (eb : b ≡ badMove modes live (moveOf body)) where
     pub move-bad : b ≡ true → refused 6 at ≡ unless (moveFaults m at body) fine
     unfolding unless moveFaults
     move-bad q = rw (← ea, t, h .machines-are, ne-eqb _ _ z, h .moves-are, lt-leb _ _ k, held-move, ← eb, q)
@@ -125,7 +128,19 @@ module _ (m : Model) (at : ℕ) {machines moves : ℕ} {modes live keys : List �
           ≡ unless (fault 7 at c ∷ fault 8 at (badCommand (m .moves) (moveOf body)) ∷ []) fine
       unfolding unless moveFaults
       early =
-          rw (← ea, t, h .machines-are, ne-eqb _ _ z, h .moves-are, lt-leb _ _ k, held-move, ← eb, q, held-guards, ← ec)
+          rw (
+            ← ea,
+            t,
+            h .machines-are,
+            ne-eqb _ _ z,
+            h .moves-are,
+            lt-leb _ _ k,
+            held-move,
+            ← eb,
+            q,
+            held-guards,
+            ← ec,
+          )
 
       pub move-guards : c ≡ true → refused 7 at ≡ unless (moveFaults m at body) fine
       unfolding unless

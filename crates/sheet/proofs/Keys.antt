@@ -1,9 +1,9 @@
 -- Keys: a key is among some keys, found by counting; a key tells a move.
 -- Assumes nothing.
-use Prim.Native.Nat.{ℕ, zero, suc, _+_, _*_, _≤_, _<_}
+use Prim.Native.Nat.{ℕ, _+_, _*_, _≤_, _<_}
 use mathlib.Core.Path.{_≡_, refl, sym, ap, _∙_}
 use mathlib.Core.Bool.{Bool, true, false, _||_, _&&_}
-use mathlib.Core.List.{List, [], _∷_, _++_, map, List·Memᴰ}
+use mathlib.Core.List.{List, [], _∷_, map}
 use native.Mathlib.Omega.{arith}
 use native.Mathlib.Numerals.{add-one}
 use native.Mathlib.Nat.{add-zero, mod-eq-of-lt}
@@ -74,8 +74,9 @@ key-tells v w a b =
     eq-eqb _ _ (key-small v a ∙ e ∙ sym (key-small w b)))
 
 -- a key among those of the moves so far: the move stands there already
-pub key-repeats : (m : Model) {machines moves : ℕ} {modes live keys : List ℕ} (v : Move) → Held m machines moves modes live keys
-    → Small v → any (eqb (keyOf v)) (take moves keys) ≡ any (sameMove v) (m .moves)
+pub key-repeats : (m : Model) {machines moves : ℕ} {modes live keys : List ℕ} (v : Move)
+    → Held m machines moves modes live keys → Small v
+    → any (eqb (keyOf v)) (take moves keys) ≡ any (sameMove v) (m .moves)
 unfolding pad
 key-repeats m {machines} {moves} {modes} {live} {keys} v h a =
     ap (any (eqb (keyOf v)))

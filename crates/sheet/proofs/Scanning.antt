@@ -1,14 +1,16 @@
 -- Reading a sheet record by record: the arrays hold what has been parsed.
 -- Assumes nothing.
-use Prim.Native.Nat.{ℕ, zero, suc, _+_, _*_, _-_, _≤_, _<_}
-use mathlib.Core.Path.{_≡_, refl, sym, ap, ap₂, subst, _∙_}
+use Prim.Native.Nat.{ℕ, _+_, _*_, _-_, _≤_, _<_}
+use mathlib.Core.Path.{_≡_, refl, sym, ap, subst, _∙_}
 use mathlib.Core.Logic.{⊎-elim}
-use mathlib.Core.List.{List, [], _∷_, _++_, map, map-append, List·Memᴰ, List·Memᴰ·not-nil}
+use mathlib.Core.List.{List, [], _∷_, map, map-append, List·Memᴰ·not-nil}
 use mathlib.Core.List.{List·Memᴰ·append-cases, List·Memᴰ·eq-of-singleton}
 use native.Mathlib.Omega.{arith}
+use mir.Val.{Fits}
+use mir.Syntax.{w16}
 use lib.ListN.{length, set, replicate, length-map}
 use Rattle.common.specs.Lists.{pad}
-use Rattle.common.specs.Reply.{Reply, given, refused}
+use Rattle.common.specs.Reply.{given, refused}
 use Rattle.common.proofs.Pad.{length-pad, pad-nil}
 use Rattle.sheet.specs.declared.refusal.Cause.{Cause}
 use Rattle.sheet.specs.declared.scan.Step.{Step}
@@ -16,12 +18,12 @@ use Rattle.sheet.specs.declared.scan.Step.the-variants.{NewMachine, NewM
 use Rattle.sheet.specs.declared.index.Sheet.{Sheet}
 use Rattle.sheet.specs.declared.index.Reading.{Reading}
 use Rattle.sheet.specs.Refusal.{numberOf}
-use Rattle.sheet.specs.Record.{recordAt}
-use Rattle.sheet.specs.Model.{Move, Model, emptyModel, machineCount, moveCount, withMachine, withMove}
-use Rattle.sheet.specs.Parse.{Parsed, nothing, Turn, more, ended, turnOf, parseFrom, parse}
+use Rattle.sheet.specs.Record.{recordAt, bodyAt}
+use Rattle.sheet.specs.Model.{Move, Model, moveOf, withMachine, withMove}
+use Rattle.sheet.specs.Parse.{Parsed, nothing, more, turnOf, parseFrom, parse}
 use Rattle.sheet.specs.Index.{indexOf, readingOf, indexReply, sheetOf}
 use Rattle.sheet.specs.Held.{keyOf, Small, Held}
-use Rattle.sheet.specs.Scan.{machineRead, moveRead, turnBy, MachineFits, MoveFits, StepFits, Stepped}
+use Rattle.sheet.specs.Scan.{machineRead, moveRead, MachineFits, MoveFits, Stepped}
 use Rattle.sheet.proofs.Arrays.{more-below, fills, one-longer}
 use Rattle.sheet.proofs.Turns.{turn-next, turn-ended, turn-refused, parse-none}
 
@@ -115,7 +117,14 @@ module _ (s : List ℕ) {modes live bodies keys : List ℕ} {machines moves at l
       (length-pad 250 _
       (omega (arith, length-map (h .parsed .model .moves) keyOf, h .held .moves-are, h .held .few-moves)))
 
-  pub index-is : record { machines = machines; moves = moves; modes = modes; live = live; bodies = bodies } ≡ indexOf (h .parsed)
+  pub index-is : record {
+    machines =
+        machines;
+    moves = moves;
+    modes = modes;
+    live = live;
+    bodies = bodies;
+  } ≡ indexOf (h .parsed)
   unfolding indexOf
   index-is = rw (h .held .machines-are, h .held .moves-are, h .held .modes-in, h .held .live-in, h .bodies-in)
 
@@ -123,52 +132,57 @@ module _ (s : List ℕ) {modes live bodies keys : List ℕ} {machines moves at l
   scan-out z = h .leads ∙ parse-none s at (h .parsed) left z
 
   -- after the step over the next record
-  module _ {v : Move} {t : Step} (some : 0 < left)
-      (step : Stepped (turnOf s at (h .parsed) (recordAt s at)) (h .parsed) v at t) where
-    told : {x : Step} → t ≡ x → Stepped (turnOf s at (h .parsed) (recordAt s at)) (h .parsed) v at x
-    told e = subst (Stepped (turnOf s at (h .parsed) (recordAt s at)) (h .parsed) v at) e step
+  module _ {t : Step}
+      (steps : (d : Parsed) → Held (d .model) machines moves modes live keys
+      → Stepped (turnOf s at d (recordAt s at)) d (moveOf (bodyAt s at)) at t) where
+    told : {x : Step} → t ≡ x
+        → Stepped (turnOf s at (h .parsed) (recordAt s at)) (h .parsed) (moveOf (bodyAt s at)) at x
+    told e =
+        subst (Stepped (turnOf s at (h .parsed) (recordAt s at)) (h .parsed) (moveOf (bodyAt s at)) at) e
+        (steps (h .parsed) (h .held))
 
     pub machine-room : {a b next : ℕ} → t ≡ NewMachine a b next → machines < 32
     machine-room e = omega (arith, told e .fits .room, h .held .machines-are)
 
-    pub move-room : {start key next : ℕ} → t ≡ NewMove start key next → (moves < 250) × (start < 65536)
-    move-room e =
-        let f = told e .fits in (
-          omega (arith, f .room, h .held .moves-are),
-          omega (arith, f .place, h .near, h .held .few-machines, h .held .few-moves),
-        )
+    pub move-room : {start key next : ℕ} → t ≡ NewMove start key next → moves < 250
+    move-room e = omega (arith, told e .fits .room, h .held .moves-are)
 
-    pub scan-machine : {a b next : ℕ} → t ≡ NewMachine a b next
-        → Scanned s (set modes machines a) (set live machines b) bodies keys (machines + 1) moves next (left - 1)
-    scan-machine {a} {b} e =
-        let f = told e .fits in
-        record {
-          parsed = machineRead (h .parsed) a b;
-          held = held-machine (h .parsed .model) (h .held) b f;
-          bodies-in = h .bodies-in;
-          bodies-are = h .bodies-are;
-          near = omega (arith, f .near, h .near);
-          leads = h .leads ∙ turn-next s at (h .parsed) left some (sym (told e .leads));
-        }
+    pub place-fits : {start key next : ℕ} → t ≡ NewMove start key next → Fits w16 start
+    place-fits e = omega (arith, told e .fits .place, h .near, h .held .few-machines, h .held .few-moves)
 
-    pub scan-move : {start key next : ℕ} → t ≡ NewMove start key next
-        → Scanned s modes live (set bodies moves start) (set keys moves key) machines (moves + 1) next (left - 1)
-    scan-move {start} e =
-        let f = told e .fits in
-        record {
-          parsed = moveRead (h .parsed) start v;
-          held = held-move (h .parsed .model) (h .held) f;
-          bodies-in = fills 250 (h .parsed .bodies) start (h .bodies-in) (h .bodies-are) (move-room e .0);
-          bodies-are = one-longer (h .parsed .bodies) start (h .bodies-are);
-          near = omega (arith, f .near, h .near);
-          leads = h .leads ∙ turn-next s at (h .parsed) left some (sym (told e .leads));
-        }
+    module _ (some : 0 < left) where
+      pub scan-machine : {a b next : ℕ} → t ≡ NewMachine a b next
+          → Scanned s (set modes machines a) (set live machines b) bodies keys (machines + 1) moves next (left - 1)
+      scan-machine {a} {b} e =
+          let f = told e .fits in
+          record {
+            parsed = machineRead (h .parsed) a b;
+            held = held-machine (h .parsed .model) (h .held) b f;
+            bodies-in = h .bodies-in;
+            bodies-are = h .bodies-are;
+            near = omega (arith, f .near, h .near);
+            leads = h .leads ∙ turn-next s at (h .parsed) left some (sym (told e .leads));
+          }
 
-    pub scan-ended : t ≡ End → parse s ≡ given (h .parsed)
-    scan-ended e = h .leads ∙ turn-ended s at (h .parsed) left some (sym (told e .leads))
+      pub scan-move : {start key next : ℕ} → t ≡ NewMove start key next
+          → Scanned s modes live (set bodies moves start) (set keys moves key) machines (moves + 1) next (left - 1)
+      scan-move {start} e =
+          let f = told e .fits in
+          record {
+            parsed = moveRead (h .parsed) start (moveOf (bodyAt s at));
+            held = held-move (h .parsed .model) (h .held) f;
+            bodies-in = fills 250 (h .parsed .bodies) start (h .bodies-in) (h .bodies-are) (move-room e);
+            bodies-are = one-longer (h .parsed .bodies) start (h .bodies-are);
+            near = omega (arith, f .near, h .near);
+            leads = h .leads ∙ turn-next s at (h .parsed) left some (sym (told e .leads));
+          }
 
-    pub scan-refused : {cause : Cause} {place : ℕ} → t ≡ Refused cause place → parse s ≡ refused (numberOf cause) place
-    scan-refused e = h .leads ∙ turn-refused s at (h .parsed) left some (sym (told e .leads))
+      pub scan-ended : t ≡ End → parse s ≡ given (h .parsed)
+      scan-ended e = h .leads ∙ turn-ended s at (h .parsed) left some (sym (told e .leads))
+
+      pub scan-refused : {cause : Cause} {place : ℕ} → t ≡ Refused cause place
+          → parse s ≡ refused (numberOf cause) place
+      scan-refused e = h .leads ∙ turn-refused s at (h .parsed) left some (sym (told e .leads))
 
 -- the reply, from what parsing the file finds
 module _ (s : List ℕ) where
@@ -176,6 +190,7 @@ module _ (s : List ℕ) where
       → (given x ≡ indexReply (parse s)) × (x ≡ sheetOf (parse s))
   reading-accepted e p = (ap given e ∙ sym (ap indexReply p), e ∙ sym (ap sheetOf p))
 
-  pub reading-refused : (r : Reading) {number place : ℕ} → (readingOf r ≡ refused number place) × (r .sheet ≡ indexOf nothing)
+  pub reading-refused : (r : Reading) {number place : ℕ}
+      → (readingOf r ≡ refused number place) × (r .sheet ≡ indexOf nothing)
       → parse s ≡ refused number place → (readingOf r ≡ indexReply (parse s)) × (r .sheet ≡ sheetOf (parse s))
   reading-refused r e p = (e .0 ∙ sym (ap indexReply p), e .1 ∙ sym (ap sheetOf p))

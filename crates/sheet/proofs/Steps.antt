@@ -2,20 +2,19 @@
 -- Assumes nothing.
 use Prim.Native.Nat.{ℕ, _+_, _≤_, _<_}
 use mathlib.Core.Path.{_≡_, refl, sym, ap, ap₂, _∙_}
-use mathlib.Core.Bool.{Bool, true, false, cond, not, _||_}
+use mathlib.Core.Bool.{cond}
 use mathlib.Core.List.{List, [], _∷_}
 use native.Mathlib.Omega.{arith}
-use borrow.Author.Tests.{leb-false, ltb-false, eqb-true, not-false, lt-ltb, le-ltb, ne-eqb}
-use lib.Dec.{eqb, ltb, leb}
-use lib.ListN.{length, getD, take, drop, length-take, length-drop}
-use Rattle.common.specs.Bits.{beyond}
-use Rattle.common.specs.Reply.{Reply, given, refused, Fault, fault, unless}
+use borrow.Author.Tests.{lt-ltb, le-ltb, ne-eqb}
+use lib.Dec.{eqb, ltb}
+use lib.ListN.{length}
+use Rattle.common.specs.Reply.{Reply, given, Fault, fault, unless}
 use Rattle.common.proofs.Reply.{Clear, unless-clear, unless-first, given-clear, refused-anyway}
 use Rattle.sheet.specs.declared.record.Record.{Record}
 use Rattle.sheet.specs.declared.record.Record.the-variants.{Whole, Cut}
-use Rattle.sheet.specs.Record.{byte, recordAt, part, bodyAt}
-use Rattle.sheet.specs.Model.{Model, Move, machineCount, moveCount, moveOf}
-use Rattle.sheet.specs.Faults.{wrongMoveLength, badMachine, badMove, machineFaults, moveFaults, endFaults, faultsOf}
+use Rattle.sheet.specs.Record.{byte, recordAt, bodyAt}
+use Rattle.sheet.specs.Model.{Move, moveOf}
+use Rattle.sheet.specs.Faults.{machineFaults, moveFaults, endFaults, faultsOf}
 use Rattle.sheet.specs.declared.judge.Judged.{Judged}
 use Rattle.sheet.specs.declared.judge.Judged.the-variants.{Fine, Faulty}
 use Rattle.sheet.specs.declared.refusal.Cause.{Cause}
@@ -23,7 +22,7 @@ use Rattle.sheet.specs.declared.refusal.Cause.the-variants.{CutShort, Wr
 use Rattle.sheet.specs.declared.scan.Step.{Step}
 use Rattle.sheet.specs.declared.scan.Step.the-variants.{NewMachine, NewMove, End, Refused}
 use Rattle.sheet.specs.Parse.{Parsed, Turn, more, ended, extended, turnAt, turnOf}
-use Rattle.sheet.specs.Held.{fine, judgedOf, keyOf, Small, Held}
+use Rattle.sheet.specs.Held.{fine, judgedOf, keyOf, Held}
 use Rattle.sheet.specs.Scan.{machineRead, moveRead, Stepped}
 use Rattle.sheet.proofs.Judging.{valid-small}
 use Rattle.sheet.proofs.Records.{whole-starts, whole-within, body-part, part-length}

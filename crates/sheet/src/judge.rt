@@ -6,7 +6,6 @@ use crate::record::byte_at;
 use crate::record::wide;
 use crate::refusal::Cause;
 ghost use mathlib.Core.Path.{_≡_};
-ghost use mathlib.Core.List.{List};
 ghost use Prim.Native.Nat.{ℕ, _+_, _*_, _-_, _/_, _≤_, _<_};
 ghost use lib.ListN.{length, take};
 ghost use lib.Dec.{eqb, ltb, leb};
@@ -15,7 +14,8 @@ ghost use Rattle.common.specs.Lists.{any};
 ghost use Rattle.common.specs.Reply.{unless};
 ghost use Rattle.sheet.specs.Record.{byte};
 ghost use Rattle.sheet.specs.Model.{Model, machineCount, moveCount, moveOf};
-ghost use Rattle.sheet.specs.Faults.{wrongMoveLength, badMachine, badMove, badGuard, badGuards, machineFaults, moveFaults, endFaults};
+ghost use Rattle.sheet.specs.Faults.{wrongMoveLength, badMachine, badMove, badGuard, badGuards};
+ghost use Rattle.sheet.specs.Faults.{machineFaults, moveFaults, endFaults};
 ghost use Rattle.sheet.specs.Held.{fine, judgedOf, keyOf, Held};
 
 // What judging a record finds.
@@ -182,7 +182,8 @@ pub fn judge_move(
     keys: &[u16],
 ) -> Judged
     requires { ⌜ length (now keys) ≡ 250 ⌝ }
-    ensures { λ r. ⌜ ((m : Model) (at : ℕ) → Held m machines moves (now (modes .entry)) (now (live .entry)) (now (keys .entry))
+    ensures { λ r. ⌜ ((m : Model) (at : ℕ)
+        → Held m machines moves (now (modes .entry)) (now (live .entry)) (now (keys .entry))
         → judgedOf r at ≡ unless (moveFaults m at (now (body .entry))) fine) ⌝ }
 {
     if wrong_move_length(body.len()) {

@@ -12,8 +12,8 @@ use crate::record::byte_at;
 use crate::refusal::Cause;
 use crate::refusal::Verdict;
 ghost use mathlib.Core.Path.{_≡_};
-ghost use mathlib.Core.List.{List, [], _∷_};
-ghost use Prim.Native.Nat.{ℕ, _+_, _≤_, _<_};
+ghost use mathlib.Core.List.{[], _∷_};
+ghost use Prim.Native.Nat.{_+_, _<_};
 ghost use lib.ListN.{length};
 ghost use lib.Dec.{ltb};
 ghost use Rattle.common.specs.Reply.{refused, given, unless, fault};
@@ -27,7 +27,7 @@ ghost use Rattle.sheet.specs.Held.{Held};
 ghost use Rattle.sheet.specs.Scan.{machineRead, moveRead, Stepped};
 
 // What one record adds to the sheet, and where the next record begins.
-pub enum Step {
+enum Step {
     NewMachine { modes: u8, live: u8, next: usize },
     // Where the move's body begins, and its key.
     NewMove { start: usize, key: u16, next: usize },

@@ -1,18 +1,13 @@
-use Prim.Native.Nat.{_≤_, _-_, _/_}
-use mathlib.Core.Path.{_≡_, refl}
+use Prim.Native.Nat.{_≤_, _-_}
 use mathlib.Core.Bool.{false}
-use native.Mathlib.Omega.{arith}
-use lib.ListN.{length}
-use Rattle.common.specs.Lists.{any, upTo}
-use Rattle.sheet.specs.Model.{moveOf}
-use Rattle.sheet.specs.Faults.{badGuard}
-use Rattle.sheet.proofs.BadGuards.{guards-none, guards-more, guards-some, guards-all}
+use mathlib.Core.Path.{_≡_, refl}
 use borrow.Author.Needs.{needs}
+use Rattle.common.specs.Lists.{any, upTo}
+use Rattle.sheet.specs.Faults.{badGuard}
+use Rattle.sheet.specs.Model.{moveOf}
+use Rattle.sheet.proofs.BadGuards.{guards-none, guards-more, guards-some, guards-all}
 use Rattle.sheet.proofs.judge.bad_guards.Statement.{statement}
 use Rattle.sheet.proofs.judge.bad_guards.Tie as tie
-use Rattle.sheet.proofs.judge.bad_guards.Reads as reads
-use Rattle.sheet.proofs.judge.bad_guards.Lts as lts
-use Rattle.sheet.proofs.judge.bad_guard.Reads as bad-guard-reads
 
 abbrev Inv-loop : tie.InvT-loop
 Inv-loop body modes count n₀ n = (n ≤ count) × (any (badGuard modes (moveOf body)) (upTo n) ≡ false)
@@ -20,35 +15,31 @@ Inv-loop body modes count n₀ n = (n ≤ count) × (any (badGuard modes (moveOf
 abbrev μ-loop : tie.MeasureT-loop
 μ-loop body modes count n₀ n = count - n
 
--- src/judge.rt:113:18
 sub-count : tie.Need-sub-count Inv-loop μ-loop
 sub-count c = search needs
 
--- src/judge.rt:115:5
 loop-holds : tie.Need-loop-holds Inv-loop μ-loop
 loop-holds c = (search needs, guards-none _ _)
 
--- src/judge.rt:116:12
 bad-guard-requires : tie.Need-bad-guard-requires Inv-loop μ-loop
 bad-guard-requires c κs = search needs
 
--- src/judge.rt:117:13
 returns : tie.Need-returns Inv-loop μ-loop
 returns c = guards-some _ _ (c .before .before .loop-test .taken) refl (c .before .bad-guard .ensures) (c .if1 .taken)
 
--- src/judge.rt:119:9
 add-n : tie.Need-add-n Inv-loop μ-loop
 add-n c = search needs
 
--- src/judge.rt:115:5
 loop-less : tie.Need-loop-less Inv-loop μ-loop
 loop-less c = search needs
 
--- src/judge.rt:115:5
 loop-again : tie.Need-loop-again Inv-loop μ-loop
-loop-again c = (search needs, guards-more _ _ _ (c .before .before .before .loop .inv .1) (c .before .bad-guard .ensures) (c .if1 .left))
+loop-again c = (
+  search needs,
+  guards-more _ _ _ (c .before .before .before .loop .inv .1) (c .before .bad-guard .ensures)
+      (c .if1 .left),
+)
 
--- src/judge.rt:109:1
 returns-2 : tie.Need-returns-2 Inv-loop μ-loop
 returns-2 c = guards-all _ _ (c .before .loop .inv .1) (c .before .loop .inv .0) (c .loop-test .left) refl
 

@@ -1,42 +1,38 @@
-use Rattle.sheet.proofs.Judging.{machine-length, machine-late, machine-many, machine-bad, machine-fine}
+use native.Mathlib.Omega.{arith}
 use borrow.Author.Needs.{needs}
+use Rattle.sheet.proofs.Judging.{machine-length, machine-late, machine-many, machine-bad, machine-fine}
 use Rattle.sheet.proofs.judge.judge_machine.Statement.{statement}
 use Rattle.sheet.proofs.judge.judge_machine.Tie as tie
-use Rattle.sheet.proofs.judge.judge_machine.Reads as reads
-use Rattle.sheet.proofs.judge.judge_machine.Lts as lts
-use Rattle.sheet.proofs.judge.bad_machine.Reads as bad-machine-reads
 
--- src/judge.rt:158:9
 returns : tie.Need-returns
 returns c = λ m at e f. machine-length m at _ e f (c .if1 .taken)
 
--- src/judge.rt:161:9
 returns-2 : tie.Need-returns-2
 returns-2 c = λ m at e f. machine-late m at _ e f (c .before .if1 .left) (c .if2 .taken)
 
--- src/judge.rt:164:9
 returns-3 : tie.Need-returns-3
-returns-3 c = λ m at e f. machine-many m at _ e f (c .before .before .if1 .left) (c .before .if2 .left) (c .if3 .taken)
+returns-3 c = λ m at e f. machine-many m at _ e f (c .before .before .if1 .left) (c .before .if2 .left) (omega (arith, c .if3 .taken))
 
--- src/judge.rt:166:20
 shared-slice-read-bad-machine : tie.Need-shared-slice-read-bad-machine
 shared-slice-read-bad-machine c = search needs
 
--- src/judge.rt:166:29
 shared-slice-read-bad-machine-2 : tie.Need-shared-slice-read-bad-machine-2
 shared-slice-read-bad-machine-2 c = search needs
 
--- src/judge.rt:166:8
 bad-machine-requires : tie.Need-bad-machine-requires
 bad-machine-requires c κs = search needs
 
--- src/judge.rt:167:9
 returns-4 : tie.Need-returns-4
-returns-4 c = λ m at e f. machine-bad m at _ e f (c .before .before .before .before .before .before .if1 .left) (c .before .before .before .before .before .if2 .left) (c .before .before .before .before .if3 .left) (c .before .bad-machine .ensures) (c .if4 .taken)
+returns-4 c =
+    λ m at e f. machine-bad m at _ e f (c .before .before .before .before .before .before .if1 .left)
+    (c .before .before .before .before .before .if2 .left) (c .before .before .before .before .if3 .left)
+    (c .before .bad-machine .ensures) (c .if4 .taken)
 
--- src/judge.rt:153:1
 returns-5 : tie.Need-returns-5
-returns-5 c = λ m at e f. machine-fine m at _ e f (c .before .before .before .before .before .before .if1 .left) (c .before .before .before .before .before .if2 .left) (c .before .before .before .before .if3 .left) (c .before .bad-machine .ensures) (c .if4 .left)
+returns-5 c =
+    λ m at e f. machine-fine m at _ e f (c .before .before .before .before .before .before .if1 .left)
+    (c .before .before .before .before .before .if2 .left) (c .before .before .before .before .if3 .left)
+    (c .before .bad-machine .ensures) (c .if4 .left)
 
 pub judge-machine-spec : {M : Type 1} → statement M
 judge-machine-spec =

@@ -1,59 +1,43 @@
 use native.Mathlib.Omega.{arith}
-use Rattle.sheet.specs.Model.{moveOf}
-use Rattle.sheet.specs.Held.{keyOf}
 use borrow.Author.Needs.{needs}
+use Rattle.sheet.specs.Held.{keyOf}
+use Rattle.sheet.specs.Model.{moveOf}
 use Rattle.sheet.proofs.judge.key_of.Statement.{statement}
 use Rattle.sheet.proofs.judge.key_of.Tie as tie
-use Rattle.sheet.proofs.judge.key_of.Reads as reads
-use Rattle.sheet.proofs.judge.key_of.Lts as lts
-use Rattle.sheet.proofs.record.byte_at.Reads as byte-at-reads
-use Rattle.sheet.proofs.record.wide.Reads as wide-reads
 
--- src/judge.rt:133:24
 byte-at-requires : tie.Need-byte-at-requires
 byte-at-requires c κs = search needs
 
--- src/judge.rt:133:9
 wide-requires : tie.Need-wide-requires
 wide-requires c κs = search needs
 
--- src/judge.rt:134:21
 byte-at-requires-2 : tie.Need-byte-at-requires-2
 byte-at-requires-2 c κs = search needs
 
--- src/judge.rt:134:9
 wide-requires-2 : tie.Need-wide-requires-2
 wide-requires-2 c κs = search needs
 
--- src/judge.rt:135:24
 byte-at-requires-3 : tie.Need-byte-at-requires-3
 byte-at-requires-3 c κs = search needs
 
--- src/judge.rt:135:9
 wide-requires-3 : tie.Need-wide-requires-3
 wide-requires-3 c κs = search needs
 
--- src/judge.rt:136:7
 mul-result : tie.Need-mul-result
 mul-result c = search needs
 
--- src/judge.rt:136:24
 mul-result-2 : tie.Need-mul-result-2
 mul-result-2 c = search needs
 
--- src/judge.rt:136:7
 add-result : tie.Need-add-result
 add-result c = search needs
 
--- src/judge.rt:136:7
 add-result-2 : tie.Need-add-result-2
 add-result-2 c = search needs
 
--- src/judge.rt:136:5
 cast-result : tie.Need-cast-result
 cast-result c = search needs
 
--- src/judge.rt:130:1
 returns : tie.Need-returns
 unfolding keyOf moveOf
 returns c = omega arith

@@ -1,28 +1,21 @@
-use Rattle.common.proofs.Tests.{tests}
-use borrow.Author.Tests.{lt-ltb}
 use borrow.Author.Needs.{needs}
+use borrow.Author.Tests.{lt-ltb}
+use Rattle.common.proofs.Tests.{tests}
 use Rattle.sheet.proofs.judge.not_rising.Statement.{statement}
 use Rattle.sheet.proofs.judge.not_rising.Tie as tie
-use Rattle.sheet.proofs.judge.not_rising.Reads as reads
-use Rattle.sheet.proofs.judge.not_rising.Lts as lts
 
--- src/judge.rt:87:36
 mul-result : tie.Need-mul-result
 mul-result c = search needs
 
--- src/judge.rt:87:32
 add-result : tie.Need-add-result
 add-result c = search needs
 
--- src/judge.rt:87:27
 shared-slice-read-result : tie.Need-shared-slice-read-result
 shared-slice-read-result c = search needs
 
--- src/judge.rt:87:9
 returns : tie.Need-returns
 returns c = rw (lt-ltb _ _ (c .before .if1 .taken))
 
--- src/judge.rt:82:1
 returns-2 : tie.Need-returns-2
 returns-2 c = search tests
 

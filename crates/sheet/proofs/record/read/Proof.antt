@@ -1,60 +1,45 @@
+use borrow.Author.Needs.{needs}
 use Rattle.common.proofs.Tests.{tests}
 use Rattle.sheet.specs.Record.{recordAt}
-use borrow.Author.Needs.{needs}
 use Rattle.sheet.proofs.record.read.Statement.{statement}
 use Rattle.sheet.proofs.record.read.Tie as tie
-use Rattle.sheet.proofs.record.read.Reads as reads
-use Rattle.sheet.proofs.record.read.Lts as lts
-use Rattle.sheet.proofs.record.word_at.Reads as word-at-reads
 
--- src/record.rt:46:9
 returns : tie.Need-returns
 unfolding recordAt
 returns c = search tests
 
--- src/record.rt:48:8
 sub-if2 : tie.Need-sub-if2
 sub-if2 c = search needs
 
--- src/record.rt:49:9
 returns-2 : tie.Need-returns-2
 unfolding recordAt
 returns-2 c = search tests
 
--- src/record.rt:51:9
 word-at-requires : tie.Need-word-at-requires
 word-at-requires c κs = search needs
 
--- src/record.rt:52:27
 add-word-at : tie.Need-add-word-at
 add-word-at c = search needs
 
--- src/record.rt:52:16
 word-at-requires-2 : tie.Need-word-at-requires-2
 word-at-requires-2 c κs = search needs
 
--- src/record.rt:52:16
 cast-kind : tie.Need-cast-kind
 cast-kind c = search needs
 
--- src/record.rt:53:8
 sub-if3 : tie.Need-sub-if3
 sub-if3 c = search needs
 
--- src/record.rt:53:8
 sub-if3-2 : tie.Need-sub-if3-2
 sub-if3-2 c = search needs
 
--- src/record.rt:54:9
 returns-3 : tie.Need-returns-3
 unfolding recordAt
 returns-3 c = search (tests, ← c .before .before .word-at .ensures .0)
 
--- src/record.rt:58:16
 add-t5 : tie.Need-add-t5
 add-t5 c = search needs
 
--- src/record.rt:42:1
 returns-4 : tie.Need-returns-4
 unfolding recordAt
 returns-4 c = search (tests, ← c .before .before .word-at .ensures .0, ← c .before .word-at2 .ensures .0)

@@ -1,39 +1,36 @@
-use Rattle.sheet.proofs.Steps.{step-refused, step-machine}
 use borrow.Author.Needs.{needs}
+use Rattle.sheet.proofs.Steps.{step-refused, step-machine}
 use Rattle.sheet.proofs.scan.machine_step.Statement.{statement}
 use Rattle.sheet.proofs.scan.machine_step.Tie as tie
-use Rattle.sheet.proofs.scan.machine_step.Reads as reads
-use Rattle.sheet.proofs.scan.machine_step.Lts as lts
-use Rattle.sheet.proofs.judge.judge_machine.Reads as judge-machine-reads
-use Rattle.sheet.proofs.record.byte_at.Reads as byte-at-reads
 
--- src/scan.rt:38:9
 judge-machine-requires : tie.Need-judge-machine-requires
 judge-machine-requires c κs = search needs
 
--- src/scan.rt:40:24
 enum-known-j : tie.Need-enum-known-j
 enum-known-j c = search needs
 
--- src/scan.rt:42:20
 enum-told : tie.Need-enum-told
 enum-told c = search needs
 
--- src/scan.rt:42:20
 byte-at-requires : tie.Need-byte-at-requires
 byte-at-requires c κs = search needs
 
--- src/scan.rt:43:19
 byte-at-requires-2 : tie.Need-byte-at-requires-2
 byte-at-requires-2 c κs = search needs
 
--- src/scan.rt:31:1
 returns : tie.Need-returns
-returns c = λ d e f. step-refused _ _ (c .before .before .before .judge-machine .ensures (d .model) (c .before .before .before .before .before .args .at) e f) _ d _ (c .before .j .given .1)
+returns c =
+    λ d e f. step-refused _ _
+    (c .before .before .before .judge-machine .ensures (d .model)
+    (c .before .before .before .before .before .args .at) e f)
+    _ d _ (c .before .j .given .1)
 
--- src/scan.rt:31:1
 returns-2 : tie.Need-returns-2
-returns-2 c = λ d e f. step-machine d _ _ _ (c .before .before .before .before .before .before .pre) (c .before .before .before .before .judge-machine .ensures (d .model) (c .before .before .before .before .before .before .args .at) e f) (c .before .before .enum-told .given .1) (c .before .byte-at .ensures) (c .byte-at2 .ensures)
+returns-2 c =
+    λ d e f. step-machine d _ _ _ (c .before .before .before .before .before .before .pre)
+    (c .before .before .before .before .judge-machine .ensures (d .model)
+    (c .before .before .before .before .before .before .args .at) e f)
+    (c .before .before .enum-told .given .1) (c .before .byte-at .ensures) (c .byte-at2 .ensures)
 
 pub machine-step-spec : {M : Type 1} → statement M
 machine-step-spec =

@@ -1,40 +1,39 @@
 use native.Mathlib.Omega.{arith}
-use Rattle.sheet.proofs.Steps.{step-refused, step-move}
 use borrow.Author.Needs.{needs}
+use Rattle.sheet.proofs.Steps.{step-refused, step-move}
 use Rattle.sheet.proofs.scan.move_step.Statement.{statement}
 use Rattle.sheet.proofs.scan.move_step.Tie as tie
-use Rattle.sheet.proofs.scan.move_step.Reads as reads
-use Rattle.sheet.proofs.scan.move_step.Lts as lts
-use Rattle.sheet.proofs.judge.judge_move.Reads as judge-move-reads
-use Rattle.sheet.proofs.judge.key_of.Reads as key-of-reads
 
--- src/scan.rt:58:9
 judge-move-requires : tie.Need-judge-move-requires
 judge-move-requires c κs = search needs
 
--- src/scan.rt:60:24
 enum-known-j : tie.Need-enum-known-j
 enum-known-j c = search needs
 
--- src/scan.rt:62:20
 enum-told : tie.Need-enum-told
 enum-told c = search needs
 
--- src/scan.rt:62:20
 add-t12 : tie.Need-add-t12
 add-t12 c = search needs
 
--- src/scan.rt:63:18
 key-of-requires : tie.Need-key-of-requires
 key-of-requires c κs = search needs
 
--- src/scan.rt:50:1
 returns : tie.Need-returns
-returns c = λ d h. step-refused _ _ (c .before .before .before .judge-move .ensures (d .model) (c .before .before .before .before .before .before .before .before .args .at) h) _ d _ (c .before .j .given .1)
+returns c =
+    λ d h. step-refused _ _
+    (c .before .before .before .judge-move .ensures (d .model)
+    (c .before .before .before .before .before .before .before .before .args .at) h)
+    _ d _ (c .before .j .given .1)
 
--- src/scan.rt:50:1
 returns-2 : tie.Need-returns-2
-returns-2 c = λ d h. step-move d _ _ _ (c .before .before .before .before .before .before .before .before .pre .0) h (c .before .before .before .judge-move .ensures (d .model) (c .before .before .before .before .before .before .before .before .args .at) h) (c .before .enum-told .given .1) (omega (arith, c .before .before .before .before .before .before .before .shared-slice-known .given 3)) (c .key-of .ensures)
+returns-2 c =
+    λ d h. step-move d _ _ _ (c .before .before .before .before .before .before .before .before .pre .0) h
+    (c .before .before .before .judge-move .ensures (d .model)
+    (c .before .before .before .before .before .before .before .before .args .at) h)
+    (c .before .enum-told .given .1)
+    (omega (arith, c .before .before .before .before .before .before .before .shared-slice-known .given 3))
+    (c .key-of .ensures)
 
 pub move-step-spec : {M : Type 1} → statement M
 move-step-spec =

@@ -1,132 +1,150 @@
-use mathlib.Core.Path.{_≡_, refl, sym, ap, _∙_}
+use mathlib.Core.Path.{sym}
 use native.Mathlib.Omega.{arith}
-use Rattle.sheet.specs.Index.{indexReply, sheetOf}
-use Rattle.sheet.proofs.Scanning.{Scanned, scan-start, modes-long, live-long, keys-long, index-is, scan-out, machine-room, move-room, scan-machine, scan-move, scan-ended, scan-refused, reading-accepted, reading-refused}
 use borrow.Author.Needs.{needs}
+use Rattle.sheet.proofs.Scanning.{Scanned, scan-start, modes-long, live-long, keys-long, index-is, scan-out}
+use Rattle.sheet.proofs.Scanning.{machine-room, move-room, place-fits, scan-machine, scan-move, scan-ended}
+use Rattle.sheet.proofs.Scanning.{scan-refused}
+use Rattle.sheet.proofs.Scanning.{reading-accepted, reading-refused}
 use Rattle.sheet.proofs.scan.read.Statement.{statement}
 use Rattle.sheet.proofs.scan.read.Tie as tie
-use Rattle.sheet.proofs.scan.read.Reads as reads
-use Rattle.sheet.proofs.scan.read.Lts as lts
-use Rattle.sheet.proofs.scan.record_step.Reads as record-step-reads
-use Rattle.sheet.proofs.scan.refusal.Reads as refusal-reads
 
 abbrev Inv-loop : tie.InvT-loop
-Inv-loop s modes₀ live₀ bodies₀ keys₀ machines₀ moves₀ at₀ left₀ modes live bodies keys machines moves at left = Scanned s modes live bodies keys machines moves at left
+Inv-loop s modes₀ live₀ bodies₀ keys₀ machines₀ moves₀ at₀ left₀ modes live bodies keys machines moves at left =
+    Scanned s modes live bodies keys machines moves at left
 
 abbrev μ-loop : tie.MeasureT-loop
 μ-loop s modes₀ live₀ bodies₀ keys₀ machines₀ moves₀ at₀ left₀ modes live bodies keys machines moves at left = left
 
--- src/scan.rt:132:5
 loop-holds : tie.Need-loop-holds Inv-loop μ-loop
 loop-holds c = scan-start _
 
--- src/scan.rt:133:9
 sub-left : tie.Need-sub-left Inv-loop μ-loop
 sub-left c = search needs
 
--- src/scan.rt:134:53
 slice-aggregate-record-step : tie.Need-slice-aggregate-record-step Inv-loop μ-loop
 slice-aggregate-record-step c = sym (modes-long _ (c .before .before .loop .inv))
 
--- src/scan.rt:134:65
 slice-aggregate-record-step-2 : tie.Need-slice-aggregate-record-step-2 Inv-loop μ-loop
 slice-aggregate-record-step-2 c = sym (live-long _ (c .before .before .before .loop .inv))
 
--- src/scan.rt:134:76
 slice-aggregate-record-step-3 : tie.Need-slice-aggregate-record-step-3 Inv-loop μ-loop
 slice-aggregate-record-step-3 c = sym (keys-long _ (c .before .before .before .before .loop .inv))
 
--- src/scan.rt:134:13
 record-step-requires : tie.Need-record-step-requires Inv-loop μ-loop
 record-step-requires c κs = keys-long _ (c .before .before .before .before .loop .inv)
 
--- src/scan.rt:137:24
 enum-known-t : tie.Need-enum-known-t Inv-loop μ-loop
 enum-known-t c = search needs
 
--- src/scan.rt:141:17
 array-write-modes : tie.Need-array-write-modes Inv-loop μ-loop
-array-write-modes c = machine-room _ (c .before .before .before .before .before .before .before .before .loop .inv) (c .before .before .before .before .before .before .before .loop-test .taken) (c .before .before .before .record-step .ensures (c .before .before .before .before .before .before .before .before .loop .inv .parsed) (c .before .before .before .before .before .before .before .before .loop .inv .held)) (c .before .t .given .1)
+array-write-modes c =
+    machine-room _ (c .before .before .before .before .before .before .before .before .loop .inv)
+    (c .before .before .before .record-step .ensures) (c .before .t .given .1)
 
--- src/scan.rt:142:17
 array-write-live : tie.Need-array-write-live Inv-loop μ-loop
-array-write-live c = machine-room _ (c .before .before .before .before .before .before .before .before .loop .inv) (c .before .before .before .before .before .before .before .loop-test .taken) (c .before .before .before .record-step .ensures (c .before .before .before .before .before .before .before .before .loop .inv .parsed) (c .before .before .before .before .before .before .before .before .loop .inv .held)) (c .before .t .given .1)
+array-write-live c =
+    machine-room _ (c .before .before .before .before .before .before .before .before .loop .inv)
+    (c .before .before .before .record-step .ensures) (c .before .t .given .1)
 
--- src/scan.rt:143:17
 add-machines : tie.Need-add-machines Inv-loop μ-loop
-add-machines c = omega (arith, machine-room _ (c .before .before .before .before .before .before .before .before .loop .inv) (c .before .before .before .before .before .before .before .loop-test .taken) (c .before .before .before .record-step .ensures (c .before .before .before .before .before .before .before .before .loop .inv .parsed) (c .before .before .before .before .before .before .before .before .loop .inv .held)) (c .before .t .given .1))
+add-machines c =
+    omega (
+      arith,
+      machine-room _ (c .before .before .before .before .before .before .before .before .loop .inv)
+          (c .before .before .before .record-step .ensures) (c .before .t .given .1),
+    )
 
--- src/scan.rt:132:5
 loop-less : tie.Need-loop-less Inv-loop μ-loop
 loop-less c = search needs
 
--- src/scan.rt:132:5
 loop-again : tie.Need-loop-again Inv-loop μ-loop
-loop-again c = scan-machine _ (c .before .before .before .before .before .before .before .before .loop .inv) (c .before .before .before .before .before .before .before .loop-test .taken) (c .before .before .before .record-step .ensures (c .before .before .before .before .before .before .before .before .loop .inv .parsed) (c .before .before .before .before .before .before .before .before .loop .inv .held)) (c .before .t .given .1)
+loop-again c =
+    scan-machine _ (c .before .before .before .before .before .before .before .before .loop .inv)
+    (c .before .before .before .record-step .ensures)
+    (c .before .before .before .before .before .before .before .loop-test .taken) (c .before .t .given .1)
 
--- src/scan.rt:146:29
 enum-known-t-2 : tie.Need-enum-known-t-2 Inv-loop μ-loop
 enum-known-t-2 c = search needs
 
--- src/scan.rt:147:33
 cast-bodies : tie.Need-cast-bodies Inv-loop μ-loop
-cast-bodies c = record { fits = move-room _ (c .before .before .before .before .before .before .before .before .loop .inv) (c .before .before .before .before .before .before .before .loop-test .taken) (c .before .before .before .record-step .ensures (c .before .before .before .before .before .before .before .before .loop .inv .parsed) (c .before .before .before .before .before .before .before .before .loop .inv .held)) (c .before .t2 .given .1) .1 }
+cast-bodies c =
+    place-fits _ (c .before .before .before .before .before .before .before .before .loop .inv)
+    (c .before .before .before .record-step .ensures) (c .before .t2 .given .1)
 
--- src/scan.rt:147:17
 mul-bodies : tie.Need-mul-bodies Inv-loop μ-loop
-mul-bodies c = omega (arith, move-room _ (c .before .before .before .before .before .before .before .before .loop .inv) (c .before .before .before .before .before .before .before .loop-test .taken) (c .before .before .before .record-step .ensures (c .before .before .before .before .before .before .before .before .loop .inv .parsed) (c .before .before .before .before .before .before .before .before .loop .inv .held)) (c .before .t2 .given .1) .0)
+mul-bodies c =
+    omega (
+      arith,
+      move-room _ (c .before .before .before .before .before .before .before .before .loop .inv)
+          (c .before .before .before .record-step .ensures) (c .before .t2 .given .1),
+    )
 
--- src/scan.rt:147:17
 array-write-bodies : tie.Need-array-write-bodies Inv-loop μ-loop
-array-write-bodies c = move-room _ (c .before .before .before .before .before .before .before .before .loop .inv) (c .before .before .before .before .before .before .before .loop-test .taken) (c .before .before .before .record-step .ensures (c .before .before .before .before .before .before .before .before .loop .inv .parsed) (c .before .before .before .before .before .before .before .before .loop .inv .held)) (c .before .t2 .given .1) .0
+array-write-bodies c =
+    move-room _ (c .before .before .before .before .before .before .before .before .loop .inv)
+    (c .before .before .before .record-step .ensures) (c .before .t2 .given .1)
 
--- src/scan.rt:148:17
 mul-keys : tie.Need-mul-keys Inv-loop μ-loop
-mul-keys c = omega (arith, move-room _ (c .before .before .before .before .before .before .before .before .loop .inv) (c .before .before .before .before .before .before .before .loop-test .taken) (c .before .before .before .record-step .ensures (c .before .before .before .before .before .before .before .before .loop .inv .parsed) (c .before .before .before .before .before .before .before .before .loop .inv .held)) (c .before .t2 .given .1) .0)
+mul-keys c =
+    omega (
+      arith,
+      move-room _ (c .before .before .before .before .before .before .before .before .loop .inv)
+          (c .before .before .before .record-step .ensures) (c .before .t2 .given .1),
+    )
 
--- src/scan.rt:148:17
 array-write-keys : tie.Need-array-write-keys Inv-loop μ-loop
-array-write-keys c = move-room _ (c .before .before .before .before .before .before .before .before .loop .inv) (c .before .before .before .before .before .before .before .loop-test .taken) (c .before .before .before .record-step .ensures (c .before .before .before .before .before .before .before .before .loop .inv .parsed) (c .before .before .before .before .before .before .before .before .loop .inv .held)) (c .before .t2 .given .1) .0
+array-write-keys c =
+    move-room _ (c .before .before .before .before .before .before .before .before .loop .inv)
+    (c .before .before .before .record-step .ensures) (c .before .t2 .given .1)
 
--- src/scan.rt:149:17
 add-moves : tie.Need-add-moves Inv-loop μ-loop
-add-moves c = omega (arith, move-room _ (c .before .before .before .before .before .before .before .before .loop .inv) (c .before .before .before .before .before .before .before .loop-test .taken) (c .before .before .before .record-step .ensures (c .before .before .before .before .before .before .before .before .loop .inv .parsed) (c .before .before .before .before .before .before .before .before .loop .inv .held)) (c .before .t2 .given .1) .0)
+add-moves c =
+    omega (
+      arith,
+      move-room _ (c .before .before .before .before .before .before .before .before .loop .inv)
+          (c .before .before .before .record-step .ensures) (c .before .t2 .given .1),
+    )
 
--- src/scan.rt:132:5
 loop-less-2 : tie.Need-loop-less-2 Inv-loop μ-loop
 loop-less-2 c = search needs
 
--- src/scan.rt:132:5
 loop-again-2 : tie.Need-loop-again-2 Inv-loop μ-loop
-loop-again-2 c = scan-move _ (c .before .before .before .before .before .before .before .before .loop .inv) (c .before .before .before .before .before .before .before .loop-test .taken) (c .before .before .before .record-step .ensures (c .before .before .before .before .before .before .before .before .loop .inv .parsed) (c .before .before .before .before .before .before .before .before .loop .inv .held)) (c .before .t2 .given .1)
+loop-again-2 c =
+    scan-move _ (c .before .before .before .before .before .before .before .before .loop .inv)
+    (c .before .before .before .record-step .ensures)
+    (c .before .before .before .before .before .before .before .loop-test .taken) (c .before .t2 .given .1)
 
--- src/scan.rt:156:21
 enum-told : tie.Need-enum-told Inv-loop μ-loop
 enum-told c = search needs
 
--- src/scan.rt:160:17
 returns : tie.Need-returns Inv-loop μ-loop
-returns c = reading-accepted _ (index-is _ (c .before .before .before .before .before .before .before .loop .inv)) (scan-ended _ (c .before .before .before .before .before .before .before .loop .inv) (c .before .before .before .before .before .before .loop-test .taken) (c .before .before .record-step .ensures (c .before .before .before .before .before .before .before .loop .inv .parsed) (c .before .before .before .before .before .before .before .loop .inv .held)) (c .enum-told .given .1))
+returns c =
+    reading-accepted _ (index-is _ (c .before .before .before .before .before .before .before .loop .inv))
+    (scan-ended _ (c .before .before .before .before .before .before .before .loop .inv)
+    (c .before .before .record-step .ensures) (c .before .before .before .before .before .before .loop-test .taken)
+    (c .enum-told .given .1))
 
--- src/scan.rt:165:27
 enum-known-t-3 : tie.Need-enum-known-t-3 Inv-loop μ-loop
 enum-known-t-3 c = search needs
 
--- src/scan.rt:166:17
 refusal-requires : tie.Need-refusal-requires Inv-loop μ-loop
 refusal-requires c κs = search needs
 
--- src/scan.rt:166:17
 returns-2 : tie.Need-returns-2 Inv-loop μ-loop
-returns-2 c = reading-refused _ (c .refusal .result) (c .refusal .ensures) (scan-refused _ (c .before .before .before .before .before .before .before .before .before .loop .inv) (c .before .before .before .before .before .before .before .before .loop-test .taken) (c .before .before .before .before .record-step .ensures (c .before .before .before .before .before .before .before .before .before .loop .inv .parsed) (c .before .before .before .before .before .before .before .before .before .loop .inv .held)) (c .before .before .t3 .given .1))
+returns-2 c =
+    reading-refused _ (c .refusal .result) (c .refusal .ensures)
+    (scan-refused _ (c .before .before .before .before .before .before .before .before .before .loop .inv)
+    (c .before .before .before .before .record-step .ensures)
+    (c .before .before .before .before .before .before .before .before .loop-test .taken)
+    (c .before .before .t3 .given .1))
 
--- src/scan.rt:170:5
 refusal-requires-2 : tie.Need-refusal-requires-2 Inv-loop μ-loop
 refusal-requires-2 c κs = search needs
 
--- src/scan.rt:120:1
 returns-3 : tie.Need-returns-3 Inv-loop μ-loop
-returns-3 c = reading-refused _ (c .refusal2 .result) (c .refusal2 .ensures) (scan-out _ (c .before .before .loop .inv) (c .before .loop-test .left))
+returns-3 c =
+    reading-refused _ (c .refusal2 .result) (c .refusal2 .ensures)
+    (scan-out _ (c .before .before .loop .inv) (c .before .loop-test .left))
 
 pub read-spec : {M : Type 1} → statement M
 read-spec =

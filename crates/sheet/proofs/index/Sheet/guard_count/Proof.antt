@@ -1,37 +1,31 @@
-use Prim.Native.Nat.{ℕ}
-use mathlib.Core.Path.{_≡_, ap, _∙_}
 use Prim.Native.Nat.{_-_, _/_}
-use Rattle.sheet.specs.Record.{word}
-use Rattle.sheet.specs.Index.{guardCountIn}
+use Prim.Native.Nat.{ℕ}
+use mathlib.Core.Path.{ap, _∙_}
 use borrow.Author.Needs.{needs}
+use Rattle.sheet.specs.Index.{guardCountIn}
+use Rattle.sheet.specs.Record.{word}
 use Rattle.sheet.proofs.index.Sheet.guard_count.Statement.{statement}
 use Rattle.sheet.proofs.index.Sheet.guard_count.Tie as tie
-use Rattle.sheet.proofs.index.Sheet.guard_count.Reads as reads
-use Rattle.sheet.proofs.index.Sheet.guard_count.Lts as lts
-use Rattle.sheet.proofs.index.Sheet.place.Reads as place-reads
-use Rattle.sheet.proofs.index.less_four.Reads as less-four-reads
-use Rattle.sheet.proofs.record.word_at.Reads as word-at-reads
 
--- src/index.rt:119:40
 place-requires : tie.Need-place-requires
 place-requires c κs = search needs
 
--- src/index.rt:119:30
 less-four-requires : tie.Need-less-four-requires
 less-four-requires c κs = search needs
 
--- src/index.rt:119:19
 word-at-requires : tie.Need-word-at-requires
 word-at-requires c κs = search needs
 
--- src/index.rt:119:9
 less-four-requires-2 : tie.Need-less-four-requires-2
 less-four-requires-2 c κs = search needs
 
--- src/index.rt:116:5
 returns : tie.Need-returns
 unfolding guardCountIn
-returns c = ap (λ (n : ℕ). n / 2) (c .less-four2 .ensures ∙ ap (λ (n : ℕ). n - 4) (c .before .word-at .ensures .0 ∙ ap (word (c .before .before .before .before .before .args .s .now)) (c .before .before .less-four .ensures ∙ ap (λ (n : ℕ). n - 4) (c .before .before .before .place .ensures .0))))
+returns c =
+    ap (λ (n : ℕ). n / 2)
+    (c .less-four2 .ensures ∙ ap (λ (n : ℕ). n - 4) (c .before .word-at .ensures .0 ∙ ap (word
+    (c .before .before .before .before .before .args .s .now)) (c .before .before .less-four .ensures ∙ ap (λ
+    (n : ℕ). n - 4) (c .before .before .before .place .ensures .0))))
 
 pub guard-count-spec : {M : Type 1} → statement M
 guard-count-spec =

@@ -1,0 +1,132 @@
+// Prints a sheet in plain words and numbers, a line for each machine and each move, or its refusal.
+use libc::STDOUT_FILENO;
+use sheet::index::Machine;
+use sheet::index::Move;
+use sheet::index::Sheet;
+use sheet::refusal::Cause;
+use sheet::refusal::Verdict;
+ghost use Rattle.io.specs.Counts.{Counts};
+
+fn text(words: &[u8]) {
+    io::write_all(STDOUT_FILENO, words);
+}
+
+fn number(n: u64) {
+    io::print_decimal(STDOUT_FILENO, n);
+}
+
+// A word and a number.
+fn labelled(words: &[u8], n: u64) {
+    text(words);
+    number(n);
+}
+
+// The modes of a set, each behind a space.
+fn modes(mask: u8) {
+    let mut m: u8 = 0;
+    while m < 8 {
+        if (mask >> m) % 2 == 1 {
+            labelled(b" ", m as u64);
+        }
+        m += 1;
+    }
+}
+
+fn machine_line(sheet: Sheet, m: u8) {
+    labelled(b"machine ", m as u64);
+    labelled(b": modes ", sheet.mode_count(Machine(m)) as u64);
+    text(b", live");
+    modes(sheet.live_modes(Machine(m)));
+    text(b"\n");
+}
+
+// A count that an index holds, as a byte.
+fn byte(n: usize) -> u8 {
+    (n % 256) as u8
+}
+
+// Need n of a move, behind a comma.
+fn need(file: &[u8], sheet: Sheet, v: u8, n: u8) {
+    let m = sheet.guard_machine(file, Move(v), n);
+    labelled(b", needs machine ", m.0 as u64);
+    text(b" in");
+    modes(sheet.guard_mask(file, Move(v), n));
+}
+
+// What a move needs.
+fn needs(file: &[u8], sheet: Sheet, v: u8) {
+    let count = sheet.guard_count(file, Move(v));
+    let mut n: usize = 0;
+    while n < count {
+        need(file, sheet, v, byte(n));
+        n += 1;
+    }
+}
+
+fn move_line(file: &[u8], sheet: Sheet, v: u8) {
+    let m = sheet.move_machine(file, Move(v));
+    labelled(b"move ", v as u64);
+    labelled(b": machine ", m.0 as u64);
+    labelled(b" from ", sheet.move_from(file, Move(v)) as u64);
+    labelled(b" to ", sheet.move_to(file, Move(v)) as u64);
+    labelled(b", command ", sheet.move_command(file, Move(v)) as u64);
+    needs(file, sheet, v);
+    text(b"\n");
+}
+
+fn machine_lines(sheet: Sheet) {
+    let count = sheet.machines;
+    let mut m: usize = 0;
+    while m < count {
+        machine_line(sheet, byte(m));
+        m += 1;
+    }
+}
+
+fn move_lines(file: &[u8], sheet: Sheet) {
+    let count = sheet.moves;
+    let mut v: usize = 0;
+    while v < count {
+        move_line(file, sheet, byte(v));
+        v += 1;
+    }
+}
+
+fn refusal_line(cause: Cause, place: usize) {
+    labelled(b"refused ", sheet::refusal::number(cause) as u64);
+    labelled(b" ", place as u64);
+    text(b"\n");
+}
+
+// The sheet that a file is.
+pub fn print_sheet(file: &[u8]) {
+    let reading = sheet::scan::read(file);
+    let verdict = reading.verdict;
+    let Verdict::Refused(cause, place) = verdict else {
+        let index = reading.sheet;
+        machine_lines(index);
+        move_lines(file, index);
+        return;
+    };
+    refusal_line(cause, place);
+}
+
+// A file's bytes into a buffer, as many as it holds; 0 where there is no file.
+pub fn load(path: &[u8], buffer: &mut [u8]) -> usize
+    ensures { λ r. ⌜ Counts r (now (buffer .exit)) ⌝ }
+{
+    let fd = os::open_read(path);
+    if fd < 0 {
+        return 0;
+    }
+    let n = io::read_full(fd, buffer);
+    libc::close(fd);
+    n
+}
+
+// Prints the sheet in sheet.bin. No longer file has another reply than its first 73,728 bytes.
+pub fn show() {
+    let mut buffer = [0u8; 73728];
+    let n = load(b"sheet.bin", &mut buffer);
+    print_sheet(&buffer[..n]);
+}

@@ -1,0 +1,4 @@
+// Prints the sheet in sheet.bin.
+fn main() {
+    printer::show();
+}
