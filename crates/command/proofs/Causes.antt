@@ -1,10 +1,10 @@
 -- The causes 16, 17 and 18: where each stands, and which of them refuses.
 -- Assumes nothing.
-use Prim.Native.Nat.{ℕ, _<_}
+use Prim.Native.Nat.{ℕ}
 use mathlib.Core.Path.{_≡_, refl, sym, ap, _∙_}
 use mathlib.Core.Logic.{_⊎_, inl, inr, ⊎-elim}
 use mathlib.Core.List.{List, [], List·Memᴰ}
-use mathlib.Core.Bool.{Bool, true, false, cond, not, _&&_, _||_}
+use mathlib.Core.Bool.{Bool, true, false, cond, not, _||_}
 use borrow.Author.Tests.{eqb-true, eq-eqb, not-true, not-false}
 use lib.Dec.{eqb}
 use Rattle.common.specs.Lists.{all}
@@ -19,7 +19,7 @@ use Rattle.sheet.specs.Model.{Model}
 use Rattle.plan.specs.Groups.{groupCount, smallestMember}
 use Rattle.command.specs.Goal.{Masks, met}
 use Rattle.command.specs.Ancestors.{downTo, upstream}
-use Rattle.command.specs.Attainable.{groups, present, liveGroup, attains, deadEnd}
+use Rattle.command.specs.Attainable.{groups, present, attains}
 use Rattle.command.specs.Attainable.{faultOf, groupFaults, attainFaults}
 use Rattle.command.specs.Uncovered.{Concerns, NotLive, DeadEnd, cause16, cause18, Because, by-16, by-17, by-18, Uncovered}
 use Rattle.command.proofs.Highest.{Highest, find-down, downTo-below, fault-place, unless-highest}

@@ -4,7 +4,7 @@ use mathlib.Core.List.{List, [], _∷_, map}
 use mathlib.Core.Bool.{Bool, not, _&&_}
 use lib.Dec.{eqb}
 use Rattle.common.specs.Lists.{upTo}
-use Rattle.common.specs.Graph.{Graph, Matrix, distances, connected}
+use Rattle.common.specs.Graph.{Graph, distances, connected}
 use Rattle.sheet.specs.Model.{Model}
 use Rattle.plan.specs.Groups.{Grouping, groupCount, movesOf, namedOutside}
 

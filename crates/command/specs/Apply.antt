@@ -7,8 +7,8 @@ use lib.Dec.{eqb, ltb}
 use Rattle.common.specs.Lists.{upTo, all, find}
 use Rattle.common.specs.Bits.{bit}
 use Rattle.common.specs.Reply.{Reply, given, refused, unless, andThen}
-use Rattle.sheet.specs.Model.{Move, Model, moveCount, moveAt}
-use Rattle.sheet.specs.Parse.{Parsed, parse}
+use Rattle.sheet.specs.Model.{Model, moveCount, moveAt}
+use Rattle.sheet.specs.Parse.{parse}
 use Rattle.command.specs.State.{modeOf, stateFaults}
 
 -- no move

@@ -2,10 +2,10 @@
 use Prim.Native.Nat.{ℕ, _≤_, _<_}
 use mathlib.Core.Path.{_≡_}
 use mathlib.Core.Logic.{_↔_}
-use mathlib.Core.List.{List, [], _∷_, _++_}
+use mathlib.Core.List.{List, _∷_, _++_}
 use mathlib.Core.Bool.{true}
-use lib.ListN.{getD, set}
-use Rattle.common.specs.Reply.{Reply, given, clear}
+use lib.ListN.{set}
+use Rattle.common.specs.Reply.{given, clear}
 use Rattle.sheet.specs.Model.{Model, moveCount, moveAt}
 use Rattle.sheet.specs.Parse.{Parsed, parse}
 use Rattle.plan.specs.Groups.{groupCount}
@@ -14,8 +14,8 @@ use Rattle.plan.specs.Reading.{groupsIn, boundIn}
 use Rattle.command.specs.State.{modeOf}
 use Rattle.command.specs.Goal.{goalMasks, met}
 use Rattle.command.specs.Next.{Next, done, command, nextReply, goalRefusals}
-use Rattle.command.specs.Apply.{Applied, acts, applyReply}
-use Rattle.command.specs.Run.{Call, ask, apply, Pending, some, Situation, begins, after, afterAll, Run}
+use Rattle.command.specs.Apply.{acts, applyReply}
+use Rattle.command.specs.Run.{Call, ask, apply, some, Situation, begins, afterAll, Run}
 
 module _ (sheet plan goal : List ℕ) (m : Model) where
   -- "as wished": group k is met

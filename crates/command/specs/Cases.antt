@@ -3,7 +3,7 @@ use mathlib.Core.Path.{_≡_, refl}
 use Prim.Native.Nat.{ℕ}
 use mathlib.Core.List.{List, [], _∷_, flatMap}
 use Rattle.common.specs.Bits.{bit, beyond}
-use Rattle.common.specs.Graph.{Matrix, successors, marked, single, grown, layersFrom, layers, distancesTo, distances, between, connected}
+use Rattle.common.specs.Graph.{successors, marked, single, grown, layersFrom, layers, distancesTo, distances, between, connected}
 use Rattle.common.specs.Lists.{upTo, all, any, filter, position, find, sum, product, maximum}
 use Rattle.common.specs.Reply.{Reply, given, refused, unless, andThen}
 use Rattle.sheet.specs.Record.{word, recordAt, part}
@@ -17,7 +17,7 @@ use Rattle.plan.specs.Groups.{movesOf, namesGroup, namedOutside}
 use Rattle.plan.specs.Modes.{size, weight, modeNumber, modeIn, liveMode, shifted}
 use Rattle.plan.specs.Usable.{meets, leads, target, alwaysMet, usable}
 use Rattle.plan.specs.Routes.{usableMoves, moveGraph, routesIn, routesUpto}
-use Rattle.plan.specs.Table.{Entry, starts, entryOf, tableOf}
+use Rattle.plan.specs.Table.{starts, entryOf, tableOf}
 use Rattle.plan.specs.Bound.{longest, costIn, costsUpto, boundOf}
 use Rattle.plan.specs.Bytes.{twoBytes, fourBytes, recordOf, tableIn, bytesOf, tableLength, tableAt, planLength}
 use Rattle.plan.specs.Planning.{large, largeGroup, largePlace, largePlan, largeBound, sizeFaults, wrongBuffer, ownPlan, lengthReply, planReply}

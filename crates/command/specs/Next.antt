@@ -1,14 +1,14 @@
 -- "Next command": for any plan whatever, the reply follows from its entries.
 use Prim.Native.Nat.{ℕ, zero, suc}
 use mathlib.Core.List.{List, [], _∷_, _++_}
-use mathlib.Core.Bool.{Bool, true, false, cond, not, _&&_, _||_}
+use mathlib.Core.Bool.{Bool, cond, not, _&&_, _||_}
 use lib.Dec.{eqb, leb}
 use Rattle.common.specs.Lists.{upTo, all, find}
 use Rattle.common.specs.Bits.{bit}
 use Rattle.common.specs.Reply.{Reply, given, refused, Fault, fault, unless, andThen}
 use Rattle.sheet.specs.Model.{Move, Model, moveCount, moveAt}
-use Rattle.sheet.specs.Parse.{Parsed, parse}
-use Rattle.plan.specs.Groups.{Grouping, groupOf, groupCount}
+use Rattle.sheet.specs.Parse.{parse}
+use Rattle.plan.specs.Groups.{groupOf, groupCount}
 use Rattle.plan.specs.Modes.{size}
 use Rattle.plan.specs.Table.{Entry}
 use Rattle.plan.specs.Reading.{groupsIn, entryAt, wellShaped}

@@ -3,7 +3,7 @@ use Prim.Native.Nat.{ℕ, suc}
 use mathlib.Core.List.{List, [], _∷_}
 use Rattle.common.specs.Reply.{Reply, given, refused}
 use Rattle.command.specs.Next.{Next, done, command, nextReply}
-use Rattle.command.specs.Apply.{Applied, applyReply, stateAfter}
+use Rattle.command.specs.Apply.{applyReply, stateAfter}
 
 pub data Call : Type 0 where
   -- "asking": next command with this sheet, plan and goal

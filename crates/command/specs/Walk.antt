@@ -5,7 +5,7 @@ use Rattle.common.specs.Reply.{Reply, given, refused, andThen}
 use Rattle.sheet.specs.Parse.{Parsed, parse}
 use Rattle.plan.specs.Planning.{lengthReply, planReply}
 use Rattle.plan.specs.Reading.{boundIn}
-use Rattle.command.specs.Next.{Next, done, command, nextReply}
+use Rattle.command.specs.Next.{done, command, nextReply}
 use Rattle.command.specs.Apply.{applyReply, stateAfter}
 
 -- a machine and a command; `done`, the count and the bound; `refused`, the number and the place

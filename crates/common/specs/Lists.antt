@@ -1,6 +1,6 @@
 -- "For each", "some", "the first that", sums and the numbers below a limit: the list functions that the definitions use.
 use Prim.Native.Nat.{ℕ, zero, suc, _+_, _*_, _-_, max}
-use mathlib.Core.List.{List, [], _∷_, _++_, map}
+use mathlib.Core.List.{List, [], _∷_, _++_}
 use mathlib.Core.Bool.{Bool, true, false, cond, _&&_, _||_}
 use lib.ListN.{length, replicate}
 

@@ -8,10 +8,8 @@ use Rattle.common.specs.Reply.{Reply, given, refused}
 use Rattle.sheet.specs.declared.index.Sheet.{Sheet}
 use Rattle.sheet.specs.declared.index.Reading.{Reading}
 use Rattle.sheet.specs.declared.refusal.Cause.{Cause}
-use Rattle.sheet.specs.declared.refusal.Verdict.{Verdict}
 use Rattle.sheet.specs.declared.refusal.Verdict.the-variants.{Accepted, Refused}
 use Rattle.sheet.specs.Refusal.{numberOf}
-use Rattle.sheet.specs.Model.{machineCount, moveCount}
 use Rattle.sheet.specs.Parse.{Parsed, nothing, parse}
 use Rattle.sheet.specs.Index.{indexOf, verdictOf, readingOf, indexReply, sheetOf}
 use Rattle.sheet.proofs.Answers.{machines-in, moves-in}

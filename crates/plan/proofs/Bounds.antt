@@ -2,8 +2,8 @@
 -- Assumes nothing.
 use Prim.Native.Nat.{ℕ, _≤_, _<_}
 use mathlib.Core.Path.{_≡_, sym, subst, _∙_}
-use mathlib.Core.List.{List, [], map, Memᴰ·of-map}
-use mathlib.Core.Bool.{true, false, cond}
+use mathlib.Core.List.{[], map, Memᴰ·of-map}
+use mathlib.Core.Bool.{true, cond}
 use native.Mathlib.Omega.{arith}
 use lib.ListN.{length, getD}
 use Rattle.common.specs.Lists.{upTo, maximum}

@@ -1,7 +1,7 @@
 -- Demand 2, whole: the plan that planning wrote is right, and it has the laws that arrival rests on.
 -- Assumes nothing.
-use Prim.Native.Nat.{ℕ, _<_}
-use mathlib.Core.Path.{_≡_, sym, subst, _∙_}
+use Prim.Native.Nat.{ℕ}
+use mathlib.Core.Path.{_≡_, sym, subst}
 use mathlib.Core.List.{List}
 use native.Mathlib.Omega.{arith}
 use lib.ListN.{length}
@@ -11,10 +11,9 @@ use Rattle.sheet.specs.Model.{Model, machineCount}
 use Rattle.sheet.specs.Valid.{Valid}
 use Rattle.sheet.specs.Parse.{Parsed, parse}
 use Rattle.sheet.proofs.Parsed.{parse-valid}
-use Rattle.plan.specs.Groups.{Grouping, groupCount, groupsOf}
-use Rattle.plan.specs.Modes.{size, modeIn}
+use Rattle.plan.specs.Groups.{Grouping, groupsOf}
+use Rattle.plan.specs.Modes.{modeIn}
 use Rattle.plan.specs.Reading.{groupsIn, boundIn}
-use Rattle.plan.specs.Bytes.{bytesOf}
 use Rattle.plan.specs.Planning.{planReply, ownPlan}
 use Rattle.plan.specs.Meaning.{ModesRight, UsableRight, PlanRight, Planned}
 use Rattle.plan.specs.Laws.{Lawful}

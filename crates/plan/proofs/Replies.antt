@@ -2,23 +2,18 @@
 -- Assumes nothing.
 use Prim.Native.Nat.{ℕ, _≤_, _<_}
 use mathlib.Core.Path.{_≡_}
-use mathlib.Core.List.{List}
-use mathlib.Core.Bool.{true, false, not}
-use native.Mathlib.Omega.{arith}
-use borrow.Author.Tests.{lt-ltb, le-ltb, eq-eqb, eqb-true, not-true, not-false}
-use lib.Dec.{eqb}
+use mathlib.Core.Bool.{true, false}
+use borrow.Author.Tests.{lt-ltb, le-ltb, eq-eqb}
 use Rattle.common.specs.Lists.{upTo}
-use Rattle.common.specs.Reply.{given}
-use Rattle.common.proofs.Bools.{true-of-not-false, or-false-intro, or-false-left, or-false-right, not-of-true}
+use Rattle.common.proofs.Bools.{true-of-not-false, or-false-intro, not-of-true}
 use Rattle.common.proofs.Lists.{any-intro, any-fails}
 use Rattle.common.proofs.Members.{upTo-mem, upTo-below}
 use Rattle.sheet.specs.Model.{Model}
-use Rattle.sheet.specs.Parse.{Parsed, parse}
 use Rattle.plan.specs.Groups.{Grouping, groupCount, groupsOf}
 use Rattle.plan.specs.Modes.{size}
 use Rattle.plan.specs.Bytes.{planLength}
 use Rattle.plan.specs.Planning.{large, largeGroup, largePlace, largePlan, largeBound, wrongBuffer}
-use Rattle.plan.specs.Meaning.{SmallGroups, squares, ownBound, RepliesRight, Replied}
+use Rattle.plan.specs.Meaning.{SmallGroups, squares, ownBound, Replied}
 use Rattle.plan.proofs.Limits.{large-place, right-buffer, right-scratch}
 use Rattle.plan.proofs.Planning.{plan-refused-9, plan-refused-10, plan-refused-11, plan-refused-12, plan-given}
 use Rattle.plan.proofs.Planning.{length-refused-9, length-refused-10, length-given}

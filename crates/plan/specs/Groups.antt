@@ -1,7 +1,7 @@
 -- "Groups and their modes": groups, their numbers, and what each group names outside.
 -- A grouping is each machine's group number. It is computed here; a plan's kind 16 record writes one too.
 use Prim.Native.Nat.{ℕ, zero, suc}
-use mathlib.Core.List.{List, [], map}
+use mathlib.Core.List.{List, map}
 use mathlib.Core.Bool.{Bool, cond, not, _&&_, _||_}
 use lib.ListN.{length, getD, replicate}
 use lib.Dec.{eqb, ltb}

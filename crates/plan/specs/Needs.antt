@@ -1,12 +1,12 @@
 -- "Groups and their modes": which machines a machine needs, and which it reaches through others.
 use Prim.Native.Nat.{ℕ, _<_}
 use mathlib.Core.Path.{_≡_}
-use mathlib.Core.List.{List, map}
+use mathlib.Core.List.{map}
 use mathlib.Core.Bool.{Bool, true, _&&_}
 use lib.Dec.{eqb}
 use Rattle.common.specs.Lists.{upTo, any, filter}
 use Rattle.common.specs.Graph.{Graph}
-use Rattle.sheet.specs.Model.{Move, Model, machineCount, moveCount, moveAt}
+use Rattle.sheet.specs.Model.{Move, Model, machineCount}
 
 -- move v names machine j
 unfoldable pub names : Move → ℕ → Bool

@@ -5,10 +5,9 @@ use mathlib.Core.Bool.{Bool, not, _||_}
 use lib.ListN.{length, replicate}
 use lib.Dec.{eqb, ltb}
 use Rattle.common.specs.Lists.{upTo, any, find, sum}
-use Rattle.common.specs.Graph.{Matrix}
 use Rattle.common.specs.Reply.{Reply, given, refused, Fault, fault, unless, andThen}
 use Rattle.sheet.specs.Model.{Model}
-use Rattle.sheet.specs.Parse.{Parsed, parse}
+use Rattle.sheet.specs.Parse.{parse}
 use Rattle.plan.specs.Groups.{Grouping, groupCount, groupsOf, smallestMember}
 use Rattle.plan.specs.Modes.{size}
 use Rattle.plan.specs.Routes.{routesUpto}

@@ -1,7 +1,7 @@
 -- Reading a plan back, whoever wrote it: its shape (15), its grouping and its entries.
 use Prim.Native.Nat.{ℕ, _+_, _*_}
 use mathlib.Core.List.{List}
-use mathlib.Core.Bool.{Bool, true, false, not, _&&_}
+use mathlib.Core.Bool.{Bool, false, not, _&&_}
 use lib.ListN.{length}
 use lib.Dec.{eqb, leb}
 use Rattle.common.specs.Lists.{upTo, all, any}
