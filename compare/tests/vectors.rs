@@ -2,6 +2,7 @@
 //! `shared/vectors` beside the repository, or where DUTY_VECTORS says.
 
 use duty_compare::command::{apply, next_command, Command, Next};
+use duty_compare::library;
 use duty_compare::plan::{plan, plan_length};
 use duty_compare::walk::walk;
 use duty_compare::Reply;
@@ -129,12 +130,9 @@ fn say_next(next: Next) -> String {
     }
 }
 
-#[test]
-fn recorded_calls_have_the_recorded_replies() {
-    let Some(folder) = folder() else { return };
-    let text = fs::read_to_string(folder.join("calls.txt")).expect("calls.txt");
+/// The blobs of calls.txt, and its calls with their replies.
+fn recorded(text: &str) -> (Blobs, Vec<(&str, &str)>) {
     let mut blobs = Blobs::default();
-    let fields = |line| str::split(line, ' ').collect::<Vec<_>>();
     for line in text.lines().filter(|line| line.starts_with("blob ")) {
         let fields = fields(line);
         blobs.by_name.insert(fields[1].to_string(), hex(fields[2]));
@@ -143,11 +141,50 @@ fn recorded_calls_have_the_recorded_replies() {
         .lines()
         .filter_map(|line| line.split_once(" = "))
         .collect();
+    assert!(!calls.is_empty(), "calls.txt holds no calls");
+    (blobs, calls)
+}
+
+fn fields(line: &str) -> Vec<&str> {
+    line.split(' ').collect()
+}
+
+#[test]
+fn recorded_calls_have_the_recorded_replies() {
+    let Some(folder) = folder() else { return };
+    let text = fs::read_to_string(folder.join("calls.txt")).expect("calls.txt");
+    let (blobs, calls) = recorded(&text);
     for (call, expected) in &calls {
         assert_eq!(&blobs.reply(&fields(call), expected), expected, "{call}");
     }
-    assert!(!calls.is_empty(), "calls.txt holds no calls");
     say(format!("{} recorded calls agree", calls.len()));
+}
+
+/// Every call tests 1 to 8 of its sheet first, so the library's check of the
+/// sheet must refuse exactly where the call was refused by such a number.
+#[test]
+fn the_library_refuses_recorded_sheets_as_recorded() {
+    let Some(folder) = folder() else { return };
+    let text = fs::read_to_string(folder.join("calls.txt")).expect("calls.txt");
+    let (blobs, calls) = recorded(&text);
+    let mut refused = 0;
+    for (call, expected) in &calls {
+        let reply = said(library::sheet(blobs.get(fields(call)[1])), |_| {
+            String::new()
+        });
+        let cause = expected.strip_prefix("refused ").unwrap_or("9 0");
+        let of_the_sheet = cause
+            .split(' ')
+            .next()
+            .is_some_and(|n| number::<u32>(n) <= 8);
+        assert_eq!(reply, if of_the_sheet { expected } else { "" }, "{call}");
+        refused += u32::from(of_the_sheet);
+    }
+    assert!(refused > 0, "calls.txt refuses no sheet");
+    say(format!(
+        "{} recorded sheets agree with the library, {refused} of them refused",
+        calls.len()
+    ));
 }
 
 #[test]
