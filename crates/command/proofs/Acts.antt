@@ -24,13 +24,15 @@ use Rattle.plan.specs.Groups.{Grouping, groupOf, members, movesOf}
 use Rattle.plan.specs.Modes.{size, modeIn, liveMode}
 use Rattle.plan.specs.Usable.{leads, target}
 use Rattle.plan.specs.Reading.{groupsIn, wellShaped}
-use Rattle.plan.proofs.Modes.{is-member, shifted-below, modeNumber-set, modeNumber-set-outside}
+use Rattle.plan.proofs.Modes.{is-member, modeNumber-set, modeNumber-set-outside}
 use Rattle.command.specs.State.{modeOf}
 use Rattle.command.specs.Attainable.{present}
 use Rattle.command.specs.Next.{holdsInside, holdsOutside}
 use Rattle.command.specs.Apply.{acts, actingMove, stateBy, applyReply}
-use Rattle.command.proofs.Shape.{Sound, state-sound, groups-length, move-present, move-group}
+use Rattle.command.proofs.Shape.{Sound, state-sound, groups-length}
 use Rattle.command.proofs.Goals.{present-below, mode-present, holds-meets}
+use Rattle.plan.proofs.Steps.{target-below as lands}
+use Rattle.plan.proofs.Named.{moves-below, moves-group}
 
 -- a move that acts is of that machine, from its present mode, with that byte
 module _ (m : Model) (state : List ℕ) (i c w : ℕ) (h : acts m state i c w ≡ true) where
@@ -71,11 +73,11 @@ module _ (m : Model) (valid : Valid m) (plan : List ℕ) (shaped : wellShaped m 
     machine = moveAt m v .machine
 
     own-valid : ValidMove m (moveAt m v)
-    own-valid = valid .moves-valid v (move-present m valid plan shaped k v member)
+    own-valid = valid .moves-valid v (moves-below m (groupsIn m plan) k member)
 
     machine-member : List·Memᴰ machine (members own k)
     machine-member =
-        is-member own k (rw groups-length (own-valid .present)) (move-group m valid plan shaped k v member)
+        is-member own k (rw groups-length (own-valid .present)) (moves-group m (groupsIn m plan) k member)
 
     module _ (state : List ℕ) (sound : Sound m state) where
       module _ (leading : leads m (groupsIn m plan) k (moveAt m v) (present m plan state k) ≡ true) where
@@ -94,11 +96,9 @@ module _ (m : Model) (valid : Valid m) (plan : List ℕ) (shaped : wellShaped m 
             holds-meets m valid plan shaped k v member state sound k ∙ and-right first _ leading
 
         pub target-below : target m (groupsIn m plan) k (moveAt m v) (present m plan state k) < size m (groupsIn m plan) k
-        unfolding target
         target-below =
-            rw (← mode-from)
-            (shifted-below m valid own (groups-length m valid plan shaped) k (present m plan state k) machine
-            (moveAt m v .to) (present-below m valid plan shaped state sound k) machine-member (own-valid .to-present))
+            lands m valid own (groups-length m valid plan shaped) k member
+            (present-below m valid plan shaped state sound k) leading
 
         -- the command acts, by this move and no other, and moves group k alone
         module _ (outside : holdsOutside m plan state k (moveAt m v) ≡ true) where
@@ -116,7 +116,7 @@ module _ (m : Model) (valid : Valid m) (plan : List ℕ) (shaped : wellShaped m 
           pub acting-is : actingMove m state (moveAt m v .machine) (moveAt m v .command) ≡ v
           acting-is =
               acting-only m valid state machine (moveAt m v .command) v
-              (move-present m valid plan shaped k v member) move-acts
+              (moves-below m (groupsIn m plan) k member) move-acts
 
           pub applied-sound : Sound m (set state (moveAt m v .machine) (moveAt m v .to))
           applied-sound =
@@ -141,12 +141,12 @@ module _ (m : Model) (valid : Valid m) (plan : List ℕ) (shaped : wellShaped m 
               → present m plan (set state (moveAt m v .machine) (moveAt m v .to)) a ≡ present m plan state a
           applied-elsewhere a n =
               modeNumber-set-outside m valid own (groups-length m valid plan shaped) a state machine (moveAt m v .to)
-              (λ e. n (sym e ∙ move-group m valid plan shaped k v member))
+              (λ e. n (sym e ∙ moves-group m (groupsIn m plan) k member))
 
           pub applied-reply : (sheet : List ℕ) (d : Parsed) → parse sheet ≡ given d → d .model ≡ m
               → applyReply sheet state (moveAt m v .machine) (moveAt m v .command)
               ≡ given (record { move = v; state = set state (moveAt m v .machine) (moveAt m v .to) })
           unfolding applyReply stateBy andThen
           applied-reply sheet d e q =
-              let some : v ≡ 255 → ⊥ = omega (arith, valid .few-moves, move-present m valid plan shaped k v member) in
+              let some : v ≡ 255 → ⊥ = omega (arith, valid .few-moves, moves-below m (groupsIn m plan) k member) in
               rw (e, q) (unless-clear _ _ (state-sound m state sound) ∙ rw (acting-is, ne-eqb v 255 some))

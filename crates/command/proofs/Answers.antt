@@ -32,7 +32,7 @@ use Rattle.command.proofs.Shape.{state-sound}
 use Rattle.command.proofs.Sends
 use Rattle.command.proofs.Sends.{Sends}
 use Rattle.command.proofs.Fall.{fall-bounded}
-use Rattle.command.proofs.Asking.{refusals-parts, parts-refusals, next-fulfils}
+use Rattle.command.proofs.Asking.{refusals-parts, next-fulfils}
 use Rattle.command.proofs.Kept
 use Rattle.command.proofs.Kept.{count, Pends, Kept, all-scoped}
 
@@ -79,8 +79,7 @@ module _ {sheet plan goal : List ℕ} {d : Parsed} {Usable : ℕ → Type 0} {lo
     next-is =
         let sound = each-clear _ (state-sound (d .model) (s .state) (kept .sound)) in
         let covered = covers (s .state) (kept .sound) .1 (kept .covered) in
-        next-fulfils sheet plan (s .state) goal d (ground .parsed) (ground .laws .shaped)
-        (parts-refusals (d .model) plan (s .state) goal sound (ground .fine) covered)
+        next-fulfils sheet plan (s .state) goal d (ground .parsed) (ground .laws .shaped) sound (ground .fine) covered
 
     -- done and the goal is reached, or the command of a move that is sent
     pub answer :

@@ -4,10 +4,10 @@ use Prim.Native.Nat.{ℕ}
 use mathlib.Core.Path.{_≡_, sym, _∙_}
 use mathlib.Core.List.{List, _++_}
 use mathlib.Core.Bool.{true}
-use Rattle.common.specs.Reply.{given, clear, andThen}
+use Rattle.common.specs.Reply.{given, clear, unless, andThen}
 use Rattle.common.proofs.Bools.{and-intro, and-left, and-right, not-of-true}
-use Rattle.common.proofs.Reply.{unless-clear}
-use Rattle.common.proofs.Clear.{clear-each, clear-append}
+use Rattle.common.proofs.Reply.{unless-clear, unless-later}
+use Rattle.common.proofs.Clear.{clear-each, clear-append, unless-append-clear}
 use Rattle.sheet.specs.Model.{Model}
 use Rattle.sheet.specs.Parse.{Parsed, parse}
 use Rattle.plan.specs.Groups.{groupCount}
@@ -31,18 +31,25 @@ module _ (m : Model) (plan state goal : List ℕ) where
         and-right (clear (stateFaults m state ++ goalFaults m goal)) _ both,
       )
 
-  pub parts-refusals : clear (stateFaults m state) ≡ true → clear (goalFaults m goal) ≡ true
-      → clear (attainFaults m plan state (goalMasks m goal)) ≡ true → clear (goalRefusals m plan state goal) ≡ true
-  unfolding goalRefusals
-  parts-refusals s g a =
-      clear-append (stateFaults m state ++ goalFaults m goal) _
-      ∙ and-intro (clear-append (stateFaults m state) (goalFaults m goal) ∙ and-intro s g) a
+-- a call that passes 1 to 8, 15, 13 and 14
+module _ (sheet plan state goal : List ℕ) (d : Parsed) (parses : parse sheet ≡ given d)
+    (shaped : wellShaped (d .model) plan ≡ true)
+    (state-good : clear (stateFaults (d .model) state) ≡ true)
+    (goal-good : clear (goalFaults (d .model) goal) ≡ true) where
+  -- 16 to 18 alone are left
+  pub next-reply : nextReply sheet plan state goal
+      ≡ unless (attainFaults (d .model) plan state (goalMasks (d .model) goal))
+      (fulfil (d .model) plan state (goalMasks (d .model) goal) (groupCount (groupsIn (d .model) plan)))
+  unfolding nextReply goalRefusals misshapen andThen
+  next-reply =
+      let before = stateFaults (d .model) state ++ goalFaults (d .model) goal in
+      rw parses
+      (unless-later _ _ _ (not-of-true shaped)
+      ∙ unless-append-clear before (attainFaults (d .model) plan state (goalMasks (d .model) goal)) _
+      (clear-append (stateFaults (d .model) state) (goalFaults (d .model) goal) ∙ and-intro state-good goal-good))
 
-pub next-fulfils : (sheet plan state goal : List ℕ) (d : Parsed) → parse sheet ≡ given d
-    → wellShaped (d .model) plan ≡ true
-    → clear (goalRefusals (d .model) plan state goal) ≡ true
-    → nextReply sheet plan state goal
-    ≡ fulfil (d .model) plan state (goalMasks (d .model) goal) (groupCount (groupsIn (d .model) plan))
-unfolding nextReply andThen misshapen
-next-fulfils sheet plan state goal d e shaped h =
-    rw e (unless-clear _ _ (not-of-true shaped, clear-each (goalRefusals (d .model) plan state goal) h))
+  -- and where they do not apply, fulfilling the goal replies
+  pub next-fulfils : clear (attainFaults (d .model) plan state (goalMasks (d .model) goal)) ≡ true
+      → nextReply sheet plan state goal
+      ≡ fulfil (d .model) plan state (goalMasks (d .model) goal) (groupCount (groupsIn (d .model) plan))
+  next-fulfils h = next-reply ∙ unless-clear _ _ (clear-each (attainFaults (d .model) plan state (goalMasks (d .model) goal)) h)

@@ -1,8 +1,8 @@
 -- Facts of a shaped plan, of goals and of one command, as arrival uses them: their names, from the files that prove them.
 -- Assumes nothing.
 pub use Rattle.command.proofs.Shape.{Sound, sound-state}
-pub use Rattle.command.proofs.Shape.{groups-length, group-below, move-present, move-group, move-below}
-pub use Rattle.command.proofs.Upstream.{named-upstream, named-of-move}
+pub use Rattle.command.proofs.Shape.{groups-length, group-below, move-below}
+pub use Rattle.command.proofs.Upstream.{named-upstream}
 pub use Rattle.command.proofs.Upstream.{upstream-below, upstream-count, upstream-trans}
 pub use Rattle.command.proofs.Goals.{present-below, met-allowed, live-present}
 pub use Rattle.command.proofs.Goals.{needs-allowed, needs-free, needs-hold, needs-fail}

@@ -25,6 +25,8 @@ use Rattle.command.proofs.Following.{needsOf}
 use Rattle.command.proofs.Sends
 use Rattle.command.proofs.Heading.{Heading}
 use Rattle.command.proofs.Sends.{AllMet, covered-below}
+use Rattle.plan.proofs.Named.{named-of-move}
+use Rattle.plan.specs.Reading.{groupsIn}
 
 module _ (m : Model) (plan : List ℕ) where
   -- the outside groups that the moves of group k name
@@ -104,7 +106,7 @@ module _ {m : Model} {plan : List ℕ} {Usable : ℕ → Type 0} {longest cost :
       → Scoped m plan (guardMasks m (groups m plan) k (moveAt m v)) (named m plan k) k
   needs-scoped k v member a q h n =
       Facts.needs-free m valid plan (laws .shaped) k v member a q
-      (λ i. n (Facts.named-of-move m valid plan (laws .shaped) k v a member i))
+      (λ i. n (named-of-move m (groupsIn m plan) k member i))
 
   cost-outside : (k : ℕ) → k < groupCount (groups m plan) → cost k ≡ longest k * (1 + outsideCost m plan cost k)
   unfolding outsideCost

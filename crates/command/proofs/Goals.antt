@@ -29,8 +29,9 @@ use Rattle.command.specs.State.{modeOf}
 use Rattle.command.specs.Goal.{Masks, anyMode, guardMasks, met, allowed}
 use Rattle.command.specs.Attainable.{present, liveGroup}
 use Rattle.command.specs.Next.{holdsInside, holdsOutside}
-use Rattle.command.proofs.Shape.{Sound, groups-length, shape-first, move-present, move-group}
+use Rattle.command.proofs.Shape.{Sound, groups-length, shape-first}
 use Rattle.command.proofs.Guards.{find-guard, mask-inside, mask-outside, mask-free}
+use Rattle.plan.proofs.Named.{moves-below, moves-group}
 
 -- machine by machine, and guard by guard
 module _ (m : Model) (groups : Grouping) (a q : ℕ) where
@@ -98,7 +99,7 @@ module _ (m : Model) (valid : Valid m) (plan : List ℕ) (shaped : wellShaped m 
     guards = moveAt m v .guards
 
     own-valid : ValidMove m (moveAt m v)
-    own-valid = valid .moves-valid v (move-present m valid plan shaped k v member)
+    own-valid = valid .moves-valid v (moves-below m (groupsIn m plan) k member)
 
     guard-there : (g : Guard) → List·Memᴰ g guards → g .machine < machineCount m
     guard-there g l = guard-valid valid (moves-mem m own k member) l .present
@@ -194,4 +195,4 @@ module _ (m : Model) (valid : Valid m) (plan : List ℕ) (shaped : wellShaped m 
           let unmet : met own needs state a ≡ false =
           false-of-not-true (λ t.
           true-false (when-known (eq-eqb a a refl) (all-at _ (sym (met-holds a other) ∙ t) (r .1))) fails) in
-          (a, omega (arith, move-group m valid plan shaped k v member), unmet)
+          (a, omega (arith, moves-group m (groupsIn m plan) k member), unmet)

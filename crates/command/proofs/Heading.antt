@@ -24,6 +24,8 @@ use Rattle.command.proofs.Facts
 use Rattle.command.proofs.Facts.{Sound}
 use Rattle.command.proofs.Following
 use Rattle.command.proofs.Following.{firstMove}
+use Rattle.plan.proofs.Named.{moves-below, moves-group, named-of-move}
+use Rattle.plan.specs.Reading.{groupsIn}
 
 -- the groups upstream of k are live
 abbrev pub UpstreamLive : Model → List ℕ → List ℕ → ℕ → Type 0
@@ -94,8 +96,8 @@ module _ {m : Model} {plan : List ℕ} {Usable : ℕ → Type 0} {longest cost :
   heading-fits masks k h =
       Following.fit m plan state k (entryAt m plan k (present m plan state k) (targetOf m plan state masks k))
       (omega (arith, h .far))
-      (Facts.move-present m valid plan (laws .shaped) k _ (h .member))
-      (Facts.move-group m valid plan (laws .shaped) k _ (h .member))
+      (moves-below m (groupsIn m plan) k (h .member))
+      (moves-group m (groupsIn m plan) k (h .member))
       (Facts.leading-from m valid plan (laws .shaped) k _ (h .member) state sound (h .leading))
       (Facts.leading-inside m valid plan (laws .shaped) k _ (h .member) state sound (h .leading))
 
@@ -124,7 +126,7 @@ module _ {m : Model} {plan : List ℕ} {Usable : ℕ → Type 0} {longest cost :
     pub named-up : (a : ℕ) → Named a → upstream m (groups m plan) k a ≡ true
     named-up a n =
         Facts.named-upstream m valid plan (laws .shaped) k a
-        (Facts.named-of-move m valid plan (laws .shaped) k v a member n) k-below
+        (named-of-move m (groupsIn m plan) k member n) k-below
 
     pub unmet-up : (a : ℕ) → met (groups m plan) needs state a ≡ false → upstream m (groups m plan) k a ≡ true
     unmet-up a unmet = named-up a (unmet-named a unmet)
@@ -138,8 +140,8 @@ module _ {m : Model} {plan : List ℕ} {Usable : ℕ → Type 0} {longest cost :
       named-attains : (a q : ℕ) → Named a → q < size m (groups m plan) a → liveMode m (groups m plan) a q ≡ true
           → Attains m plan needs state a q
       named-attains a q n below l =
-          let here = Facts.move-present m valid plan (laws .shaped) k v member in
-          let named = rw (← Facts.move-group m valid plan (laws .shaped) k v member) at n in
+          let here = moves-below m (groupsIn m plan) k member in
+          let named = rw (← moves-group m (groupsIn m plan) k member) at n in
           let r = laws .always-met v a q here usable named below l in
           let low = Facts.upstream-below m valid plan (laws .shaped) k a (named-up a n) in
           let other : a ≡ k → ⊥ = λ e. omega arith in

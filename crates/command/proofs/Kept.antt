@@ -35,6 +35,8 @@ use Rattle.command.proofs.Moving.{Acting, Highest, Moves, sends-acting}
 use Rattle.command.proofs.Stays
 use Rattle.command.proofs.Fall.{Scoped, fall}
 use Rattle.command.proofs.Falls.{fall-falls}
+use Rattle.plan.proofs.Named.{moves-below}
+use Rattle.plan.specs.Reading.{groupsIn}
 
 abbrev pub count : Model → List ℕ → ℕ
 count m plan = groupCount (groups m plan)
@@ -99,7 +101,7 @@ module _ {m : Model} {plan goal : List ℕ} {Usable : ℕ → Type 0} {longest c
 
     -- the move acts, by its command and no other
     pub sent-present : v < moveCount m
-    sent-present = Facts.move-present m valid plan (laws .shaped) j v (acting .member)
+    sent-present = moves-below m (groupsIn m plan) j (acting .member)
 
     pub sent-from : modeOf (s .state) (moveAt m v .machine) ≡ moveAt m v .from
     sent-from =

@@ -16,7 +16,7 @@ use Rattle.common.proofs.Members.{upTo-mem, upTo-below}
 use Rattle.common.proofs.Reply.{Clear}
 use Rattle.common.proofs.Clear.{clear-each}
 use Rattle.sheet.specs.Record.{word, recordAt, part}
-use Rattle.sheet.specs.Model.{Model, machineCount, modeCount, moveCount, moveAt}
+use Rattle.sheet.specs.Model.{Model, machineCount, modeCount, moveAt}
 use Rattle.sheet.specs.Valid.{Valid}
 use Rattle.plan.specs.Groups.{groupOf, groupCount, movesOf}
 use Rattle.plan.specs.Reading.{groupsIn, hasRecord, gapless, needsFirst, wellShaped}
@@ -83,14 +83,7 @@ module _ (m : Model) (valid : Valid m) (plan : List ℕ) (shaped : wellShaped m 
   pub group-below : (i : ℕ) → i < machineCount m → groupOf (groupsIn m plan) i < groupCount (groupsIn m plan)
   group-below i h = group-below-count (groupsIn m plan) i (omega (arith, groups-length))
 
-  pub move-present : (k v : ℕ) → List·Memᴰ v (movesOf m (groupsIn m plan) k) → v < moveCount m
-  move-present k v h = moves-below m (groupsIn m plan) k h
-
-  pub move-group : (k v : ℕ) → List·Memᴰ v (movesOf m (groupsIn m plan) k)
-      → groupOf (groupsIn m plan) (moveAt m v .machine) ≡ k
-  move-group k v h = moves-group m (groupsIn m plan) k h
-
   pub move-below : (k v : ℕ) → List·Memᴰ v (movesOf m (groupsIn m plan) k) → k < groupCount (groupsIn m plan)
   move-below k v h =
-      let there = valid .moves-valid v (move-present k v h) .present in
-      omega (arith, move-group k v h, group-below (moveAt m v .machine) there)
+      let there = valid .moves-valid v (moves-below m (groupsIn m plan) k h) .present in
+      omega (arith, moves-group m (groupsIn m plan) k h, group-below (moveAt m v .machine) there)

@@ -2,7 +2,7 @@
 -- Assumes nothing.
 use Prim.Native.Nat.{ℕ, _≤_, _<_}
 use mathlib.Core.Path.{_≡_}
-use mathlib.Core.List.{List, [], _∷_, List·Memᴰ}
+use mathlib.Core.List.{List, [], List·Memᴰ}
 use mathlib.Core.Bool.{true, not}
 use native.Mathlib.Omega.{arith}
 use borrow.Author.Tests.{eqb-false, ne-eqb, not-true}
@@ -17,7 +17,7 @@ use Rattle.sheet.specs.Model.{Model}
 use Rattle.sheet.specs.Valid.{Valid}
 use Rattle.plan.specs.Groups.{Grouping, groupCount, movesOf, namedOutside}
 use Rattle.plan.specs.Reading.{groupsIn, wellShaped}
-use Rattle.plan.proofs.Named.{named-below, named-other, named-lower, named-of-move as named-by-move}
+use Rattle.plan.proofs.Named.{named-below, named-other, named-lower}
 use Rattle.command.specs.Ancestors.{groupGraph, upstream}
 use Rattle.command.proofs.Shape.{shape-first}
 
@@ -97,8 +97,3 @@ module _ (m : Model) (valid : Valid m) (plan : List ℕ) (shaped : wellShaped m 
       (omega (arith, upstream-below k a h, upstream-below a b l))
       (upstream-nodes m groups a b l .1)
       (chain-append (upstream-chain m groups k a h .1) (upstream-chain m groups a b l .1))
-
-  pub named-of-move : (k v a : ℕ) → List·Memᴰ v (movesOf m (groupsIn m plan) k)
-      → List·Memᴰ a (namedOutside m (groupsIn m plan) k (v ∷ []))
-      → List·Memᴰ a (namedOutside m (groupsIn m plan) k (movesOf m (groupsIn m plan) k))
-  named-of-move k v a h l = named-by-move m (groupsIn m plan) k h l

@@ -120,5 +120,18 @@ cases =
 
 -- every case holds, by computation
 pub cases-hold : AllHold cases
-unfolding flatMap stove lone filterAndPan modelIn costsOf bit beyond successors marked single grown layersFrom layers distancesTo distances between connected upTo all any filter position find sum product maximum unless andThen word recordAt part moveOf withMachine withMove wrongMoveLength badMachine badMove badGuard badGuards sameMove badCommand machineFaults moveFaults endFaults faultsOf extended turnAt parseFrom parse names needs needGraph groupCount members smallestMember together numbered ready withNumber numberedUpto groupsOf movesOf namesGroup namedOutside size weight modeNumber modeIn liveMode shifted meets leads target alwaysMet usable usableMoves moveGraph routesIn routesUpto starts entryOf tableOf longest costIn costsUpto boundOf twoBytes fourBytes recordOf tableIn bytesOf tableLength tableAt planLength large largeGroup largePlace largePlan largeBound sizeFaults wrongBuffer ownPlan lengthReply planReply groupsIn tableOfGroup entryIn entryAt hasRecord gapless needsFirst fitsRecords wellShaped boundIn absentMode stateFaults badByte goalFaults goalMasks guardMasks met allowed downTo groupGraph upstream liveGroup attains deadEnd highest faultOf groupFaults attainFaults nearest targetOf holdsInside holdsOutside unfit prepareBy followBy fulfil goalRefusals misshapen nextReply acts actingMove stateBy applyReply obey walkLines
+unfolding
+    flatMap stove lone filterAndPan modelIn costsOf bit beyond successors marked single grown layersFrom layers
+    distancesTo distances between connected upTo all any filter position find sum product maximum unless andThen
+    word recordAt part moveOf withMachine withMove wrongMoveLength badMachine badMove badGuard badGuards sameMove
+    badCommand machineFaults moveFaults endFaults faultsOf extended turnAt parseFrom parse names needs needGraph
+    groupCount members smallestMember together numbered ready withNumber numberedUpto groupsOf movesOf namesGroup
+    namedOutside size weight modeNumber modeIn liveMode shifted meets leads target alwaysMet usable usableMoves
+    moveGraph routesIn routesUpto starts entryOf tableOf longest costIn costsUpto boundOf twoBytes fourBytes
+    recordOf tableIn bytesOf tableLength tableAt planLength large largeGroup largePlace largePlan largeBound
+    sizeFaults wrongBuffer ownPlan lengthReply planReply groupsIn tableOfGroup entryIn entryAt hasRecord gapless
+    needsFirst fitsRecords wellShaped boundIn absentMode stateFaults badByte goalFaults goalMasks guardMasks met
+    allowed downTo groupGraph upstream liveGroup attains deadEnd highest faultOf groupFaults attainFaults nearest
+    targetOf holdsInside holdsOutside unfit prepareBy followBy fulfil goalRefusals misshapen nextReply acts
+    actingMove stateBy applyReply obey walkLines
 cases-hold = ((refl, refl, refl, refl), (refl, (refl, (refl, (refl, (refl, ((refl, refl, refl, refl), (refl, (refl, (refl, (refl, tt)))))))))))
