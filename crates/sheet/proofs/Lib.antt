@@ -5,6 +5,7 @@ pub mod BadMoves
 pub mod Bytes
 pub mod Counts
 pub mod Fits
+pub mod Guarantees
 pub mod Guards
 pub mod Judging
 pub mod Keys

@@ -1,6 +1,7 @@
 pub mod Faults
 pub mod Held
 pub mod Index
+pub mod Meaning
 pub mod Model
 pub mod Parse
 pub mod Record

@@ -2,6 +2,7 @@
 pub mod bits;
 pub mod index;
 mod judge;
+pub mod promises;
 pub mod reader;
 pub mod record;
 pub mod refusal;

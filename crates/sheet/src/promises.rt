@@ -1,0 +1,17 @@
+// What reading a sheet promises, as theorems. A function here does nothing: its contract is the theorem.
+ghost use Rattle.sheet.specs.Meaning.{AcceptedValid, IndexAnswers, RefusedListed};
+
+// A sheet that passes 1 to 8 is valid, and has a machine.
+pub fn accepted_is_valid()
+    ensures { λ _. ⌜ AcceptedValid ⌝ }
+{}
+
+// A refusal has one of the numbers 1 to 8, and a place in the file or just behind it.
+pub fn refused_is_listed()
+    ensures { λ _. ⌜ RefusedListed ⌝ }
+{}
+
+// Each answer of the index is the model's field.
+pub fn index_answers()
+    ensures { λ _. ⌜ IndexAnswers ⌝ }
+{}
