@@ -8,6 +8,7 @@ use mathlib.Core.Bool.{true}
 use native.Mathlib.Nat.{le-refl}
 use native.Mathlib.Omega.{arith}
 use lib.ListN.{set}
+use lib.Seq.{getD-set-same}
 use Rattle.common.specs.Lists.{upTo}
 use Rattle.common.specs.Reply.{given, clear}
 use Rattle.common.proofs.Bools.{true-false}
@@ -166,7 +167,11 @@ module _ {sheet plan goal : List ℕ} {d : Parsed} {Usable : ℕ → Type 0} {lo
           pends = e;
           move = p .move;
           present = here;
+          its-own = sym (p .machine-is);
           applies = applies-pending p;
           was = ap (modeOf (s .state)) (p .machine-is) ∙ from;
+          is-now =
+              getD-set-same (s .state) i _ 0
+              (omega (arith, p .machine-is, kept .sound .long, ground .valid .moves-valid (p .move) here .present));
           differs = ground .valid .moves-valid (p .move) here .moves-on;
         }

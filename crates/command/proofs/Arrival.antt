@@ -14,7 +14,7 @@ use Rattle.command.specs.Next.{goalRefusals}
 use Rattle.command.specs.Run.{Call, ask, apply, Situation, begins, afterAll, Run}
 use Rattle.sheet.proofs.Parsed.{parse-valid}
 use Rattle.plan.proofs.Planned.{planned-lawful}
-use Rattle.command.specs.Arrival.{Arrival, AsWishedFrom, Reached, Asked, Moved, Promise}
+use Rattle.command.specs.Arrival.{Arrival, ArrivalOfLaws, AsWishedFrom, Reached, Asked, Moved, Promise}
 use Rattle.command.proofs.Asking.{refusals-parts}
 use Rattle.command.proofs.Kept.{Kept}
 use Rattle.command.proofs.Answers
@@ -91,3 +91,7 @@ pub arrival : Arrival
 arrival sheet plan state goal buffer scratch d calls parsed planned passes run =
     arrival-of-laws sheet plan state goal d _ _ _ parsed (parse-valid sheet parsed)
     (planned-lawful sheet plan buffer scratch d parsed planned) passes calls run
+
+pub arrival-by-laws : ArrivalOfLaws
+arrival-by-laws sheet plan state goal d usable longest cost calls parsed laws passes run =
+    arrival-of-laws sheet plan state goal d _ longest cost parsed (parse-valid sheet parsed) laws passes calls run

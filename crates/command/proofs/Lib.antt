@@ -1,4 +1,5 @@
 pub mod Acts
+pub mod Ancestry
 pub mod Answers
 pub mod Arrival
 pub mod Asking
@@ -14,7 +15,9 @@ pub mod Guards
 pub mod Heading
 pub mod Highest
 pub mod Kept
+pub mod Meanings
 pub mod Moving
+pub mod Picked
 pub mod Refusals
 pub mod Sends
 pub mod Shape

@@ -3,12 +3,13 @@ use Prim.Native.Nat.{ℕ, _≤_, _<_}
 use mathlib.Core.Path.{_≡_}
 use mathlib.Core.Logic.{_↔_}
 use mathlib.Core.List.{List, _∷_, _++_}
-use mathlib.Core.Bool.{true}
+use mathlib.Core.Bool.{Bool, true}
 use lib.ListN.{set}
 use Rattle.common.specs.Reply.{given, clear}
 use Rattle.sheet.specs.Model.{Model, moveCount, moveAt}
 use Rattle.sheet.specs.Parse.{Parsed, parse}
 use Rattle.plan.specs.Groups.{groupCount}
+use Rattle.plan.specs.Laws.{PlanLaws}
 use Rattle.plan.specs.Planning.{planReply}
 use Rattle.plan.specs.Reading.{groupsIn, boundIn}
 use Rattle.command.specs.State.{modeOf}
@@ -49,10 +50,12 @@ module _ (sheet plan goal : List ℕ) (m : Model) where
     pub pends : s .pending ≡ some machine byte
     pub move : ℕ
     pub present : move < moveCount m
-    -- no applying refuses, and the machine has moved: from the move's from mode to its to mode, which differs
+    pub its-own : moveAt m move .machine ≡ machine
+    -- applying is not refused, and the machine has moved: from the move's from mode to its to mode, which differs
     pub applies : applyReply sheet (s .state) machine byte
         ≡ given (record { move = move; state = set (s .state) machine (moveAt m move .to) })
     pub was : modeOf (s .state) machine ≡ moveAt m move .from
+    pub is-now : modeOf (set (s .state) machine (moveAt m move .to)) machine ≡ moveAt m move .to
     pub differs : moveAt m move .from ≡ moveAt m move .to → ⊥
 
   -- the promise about a list of calls from a situation
@@ -75,6 +78,16 @@ Arrival =
     (sheet plan state goal : List ℕ) (buffer scratch : ℕ) (d : Parsed) (calls : List Call)
     → parse sheet ≡ given d
     → planReply sheet buffer scratch ≡ given plan
+    → clear (goalRefusals (d .model) plan state goal) ≡ true
+    → Run sheet plan goal (begins state) calls
+    → Promise sheet plan goal (d .model) (begins state) calls
+
+-- The same for any plan that has the laws, whoever wrote it; `usable` says which moves it counts as usable.
+abbrev pub ArrivalOfLaws : Type 0
+ArrivalOfLaws =
+    (sheet plan state goal : List ℕ) (d : Parsed) (usable : ℕ → Bool) (longest cost : ℕ → ℕ) (calls : List Call)
+    → parse sheet ≡ given d
+    → PlanLaws (d .model) plan (λ v. usable v ≡ true) longest cost
     → clear (goalRefusals (d .model) plan state goal) ≡ true
     → Run sheet plan goal (begins state) calls
     → Promise sheet plan goal (d .model) (begins state) calls

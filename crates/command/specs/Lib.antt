@@ -5,6 +5,8 @@ pub mod Attainable
 pub mod Cases
 pub mod Covered
 pub mod Goal
+pub mod Meaning
+pub mod Method
 pub mod Next
 pub mod Run
 pub mod State

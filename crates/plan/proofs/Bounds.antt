@@ -1,7 +1,7 @@
 -- The bound: L is the largest distance of a group and is reached; the costs follow document 01's rule.
 -- Assumes nothing.
 use Prim.Native.Nat.{ℕ, _≤_, _<_}
-use mathlib.Core.Path.{_≡_, sym, subst, _∙_}
+use mathlib.Core.Path.{_≡_, refl, sym, subst, _∙_}
 use mathlib.Core.List.{[], map, Memᴰ·of-map}
 use mathlib.Core.Bool.{true, cond}
 use native.Mathlib.Omega.{arith}
@@ -13,12 +13,13 @@ use Rattle.common.proofs.Members.{upTo-below, length-map-upTo}
 use Rattle.common.proofs.Sums.{maximum-some}
 use Rattle.sheet.specs.Model.{Model, machineCount}
 use Rattle.sheet.specs.Valid.{Valid}
-use Rattle.plan.specs.Groups.{Grouping, groupCount}
+use Rattle.plan.specs.Groups.{Grouping, groupCount, groupsOf}
 use Rattle.plan.specs.Modes.{size}
 use Rattle.plan.specs.Reading.{needsFirst}
 use Rattle.plan.specs.Bound.{longest, boundOf}
-use Rattle.plan.specs.Meaning.{ShortestRoute, BoundRight}
+use Rattle.plan.specs.Meaning.{ShortestRoute, BoundRight, BoundsRight, SmallGroups, ownBound}
 use Rattle.plan.proofs.Modes.{size-positive}
+use Rattle.plan.proofs.Groups.{groups-right, needs-first-test}
 use Rattle.plan.proofs.Routes.{allRoutes}
 use Rattle.plan.proofs.Distances.{routes-length, route-of-between, between-at-most, between-below, between-longest}
 use Rattle.plan.proofs.Distances.{between-self, connected-size}
@@ -102,3 +103,16 @@ module _ (m : Model) (valid : Valid m) (groups : Grouping) (all-machines : lengt
         cost-is = λ k h. cost-rule m groups (allRoutes m groups) first h;
         sum-of-costs = e ∙ bound-sum m groups (allRoutes m groups);
       }
+
+pub bounds-right : BoundsRight
+bounds-right m valid =
+    let g = groups-right m valid in
+    bound-right m valid (groupsOf m) (g .numbers-all) (needs-first-test valid g) (ownBound m) refl
+
+-- a shortest route is shorter than its group is large
+pub few-moves : (m : Model) → Valid m → SmallGroups m (groupsOf m) → (k d p q : ℕ) → k < groupCount (groupsOf m)
+    → q < size m (groupsOf m) k → ShortestRoute m (groupsOf m) k d p q → d < 64
+few-moves m valid small k d p q h hq s =
+    let first = needs-first-test valid (groups-right m valid) in
+    let l = between-below m (groupsOf m) first h p q hq (s .0) in
+    omega (arith, s .1 _ (route-of-between m (groupsOf m) first h p q l), l, small k h)

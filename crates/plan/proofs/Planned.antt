@@ -24,7 +24,7 @@ use Rattle.plan.proofs.Usable.{usable-means, means-usable, stays-live}
 use Rattle.plan.proofs.ReadBack.{groups-read, entry-read, bound-read, shaped}
 use Rattle.plan.proofs.Planning.{length-groupsOf, Accepted, accepted-writable, accepted-length, plan-accepted}
 use Rattle.plan.proofs.OwnLaws.{ReadsBack, LawsFor, own-entry, own-laws}
-use Rattle.plan.proofs.Bounds.{bound-right}
+use Rattle.plan.proofs.Bounds.{bound-right, few-moves}
 
 pub modes-right : (m : Model) → Valid m → (groups : Grouping) → length groups ≡ machineCount m → (k : ℕ)
     → ModesRight m groups k
@@ -71,6 +71,8 @@ module _ (m : Model) (valid : Valid m) where
           groups = groups-right m valid;
           modes = modes-right m valid (groupsOf m) (r .all-machines);
           entries = own-entry m (groupsOf m) (ownPlan m) r;
+          small = a .small-groups;
+          few-moves = few-moves m valid (a .small-groups);
           stays-live = stays-live m valid (groupsOf m) (r .all-machines);
           bound = bound-right m valid (groupsOf m) (r .all-machines) (r .first) (boundIn m (ownPlan m)) (r .bound-read);
           bounded = omega (arith, a .small-bound, r .bound-read);

@@ -23,43 +23,43 @@ abbrev pub Connects : Model → List ℕ → ℕ → ℕ → ℕ → Type 0
 Connects m plan k p q = entryAt m plan k p q .distance < 255
 
 module _ (m : Model) (plan : List ℕ) where
-  abbrev own : Grouping
-  own = groupsIn m plan
+  abbrev groups : Grouping
+  groups = groupsIn m plan
 
-  -- `Usable` says which moves are usable, `longest` and `cost` give L and the cost of each group
-  pub record PlanLaws (Usable : ℕ → Type 0) (longest cost : ℕ → ℕ) : Type 0 where
+  -- `IsUsable` says which moves are usable, `longest` and `cost` give L and the cost of each group
+  pub record PlanLaws (IsUsable : ℕ → Type 0) (longest cost : ℕ → ℕ) : Type 0 where
     pub shaped : wellShaped m plan ≡ true
     -- entries are bytes
-    pub byte-entries : (k p q : ℕ) → k < groupCount own → p < size m own k → q < size m own k
+    pub byte-entries : (k p q : ℕ) → k < groupCount groups → p < size m groups k → q < size m groups k
         → entryAt m plan k p q .distance ≤ 255
     -- 1: the distance is 0 exactly from a mode to itself
-    pub zero-self : (k p : ℕ) → k < groupCount own → p < size m own k → entryAt m plan k p p .distance ≡ 0
-    pub self-zero : (k p q : ℕ) → k < groupCount own → p < size m own k → q < size m own k
+    pub zero-self : (k p : ℕ) → k < groupCount groups → p < size m groups k → entryAt m plan k p p .distance ≡ 0
+    pub self-zero : (k p q : ℕ) → k < groupCount groups → p < size m groups k → q < size m groups k
         → entryAt m plan k p q .distance ≡ 0 → p ≡ q
     -- 2: at distance d + 1 the first move is usable, leads from p, and leaves at most d
-    pub first-move : (k p q d : ℕ) → k < groupCount own → p < size m own k → q < size m own k
+    pub first-move : (k p q d : ℕ) → k < groupCount groups → p < size m groups k → q < size m groups k
         → IsDistance m plan k p q (suc d)
-        → List·Memᴰ (entryAt m plan k p q .move) (movesOf m own k) × Usable (entryAt m plan k p q .move)
-        × (leads m own k (moveAt m (entryAt m plan k p q .move)) p ≡ true)
-        × (entryAt m plan k (target m own k (moveAt m (entryAt m plan k p q .move)) p) q .distance ≤ d)
+        → List·Memᴰ (entryAt m plan k p q .move) (movesOf m groups k) × IsUsable (entryAt m plan k p q .move)
+        × (leads m groups k (moveAt m (entryAt m plan k p q .move)) p ≡ true)
+        × (entryAt m plan k (target m groups k (moveAt m (entryAt m plan k p q .move)) p) q .distance ≤ d)
     -- 3: a usable move makes a route; routes compose; a route from a live mode ends in one
-    pub move-connects : (k p v : ℕ) → k < groupCount own → p < size m own k → List·Memᴰ v (movesOf m own k) → Usable v
-        → leads m own k (moveAt m v) p ≡ true → Connects m plan k p (target m own k (moveAt m v) p)
-    pub connects-compose : (k p q r : ℕ) → k < groupCount own → p < size m own k → q < size m own k → r < size m own k
+    pub move-connects : (k p v : ℕ) → k < groupCount groups → p < size m groups k → List·Memᴰ v (movesOf m groups k) → IsUsable v
+        → leads m groups k (moveAt m v) p ≡ true → Connects m plan k p (target m groups k (moveAt m v) p)
+    pub connects-compose : (k p q r : ℕ) → k < groupCount groups → p < size m groups k → q < size m groups k → r < size m groups k
         → Connects m plan k p q → Connects m plan k q r → Connects m plan k p r
-    pub connects-live : (k p q : ℕ) → k < groupCount own → p < size m own k → q < size m own k → Connects m plan k p q
-        → liveMode m own k p ≡ true → liveMode m own k q ≡ true
+    pub connects-live : (k p q : ℕ) → k < groupCount groups → p < size m groups k → q < size m groups k → Connects m plan k p q
+        → liveMode m groups k p ≡ true → liveMode m groups k q ≡ true
     -- 4: a usable move's needs on an outside group can be met from every live mode
-    pub always-met : (v a p : ℕ) → v < moveCount m → Usable v
-        → List·Memᴰ a (namedOutside m own (groupOf own (moveAt m v .machine)) (v ∷ []))
-        → p < size m own a → liveMode m own a p ≡ true
-        → (q : ℕ) × (q < size m own a) × (meets m own a (moveAt m v) q ≡ true) × Connects m plan a p q
+    pub always-met : (v a p : ℕ) → v < moveCount m → IsUsable v
+        → List·Memᴰ a (namedOutside m groups (groupOf groups (moveAt m v .machine)) (v ∷ []))
+        → p < size m groups a → liveMode m groups a p ≡ true
+        → (q : ℕ) × (q < size m groups a) × (meets m groups a (moveAt m v) q ≡ true) × Connects m plan a p q
     -- 5: no route is longer than L; the costs; the bound that the plan writes
-    pub at-most-longest : (k p q : ℕ) → k < groupCount own → p < size m own k → q < size m own k → Connects m plan k p q
+    pub at-most-longest : (k p q : ℕ) → k < groupCount groups → p < size m groups k → q < size m groups k → Connects m plan k p q
         → entryAt m plan k p q .distance ≤ longest k
-    pub cost-is : (k : ℕ) → k < groupCount own
-        → cost k ≡ longest k * (1 + sum (map cost (namedOutside m own k (movesOf m own k))))
-    pub bound-is : boundIn m plan ≡ sum (map cost (upTo (groupCount own)))
+    pub cost-is : (k : ℕ) → k < groupCount groups
+        → cost k ≡ longest k * (1 + sum (map cost (namedOutside m groups k (movesOf m groups k))))
+    pub bound-is : boundIn m plan ≡ sum (map cost (upTo (groupCount groups)))
 
 -- The plan that planning writes has them.
 abbrev pub Lawful : Type 0

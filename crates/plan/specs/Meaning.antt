@@ -8,6 +8,7 @@ use lib.ListN.{length, getD}
 use Rattle.common.specs.Lists.{upTo, sum}
 use Rattle.common.specs.Reply.{given, refused}
 use Rattle.sheet.specs.Model.{Model, machineCount, modeCount, moveCount, moveAt}
+use Rattle.sheet.specs.Valid.{Valid}
 use Rattle.sheet.specs.Parse.{Parsed, parse}
 use Rattle.plan.specs.Needs.{needs, Reaches}
 use Rattle.plan.specs.Groups.{Grouping, groupOf, groupCount, members, smallestMember, groupsOf, namedOutside, movesOf}
@@ -123,6 +124,10 @@ squares m groups = sum (map (λ k. size m groups k * size m groups k) (upTo (gro
 abbrev pub ownBound : Model → ℕ
 ownBound m = boundOf m (groupsOf m) (routesUpto m (groupsOf m) (groupCount (groupsOf m)))
 
+-- The bound of every sheet that passes 1 to 8, accepted or not, is the sum of the costs.
+abbrev pub BoundsRight : Type 0
+BoundsRight = (m : Model) → Valid m → BoundRight m (groupsOf m) (ownBound m)
+
 -- 9 to 12 are tested in this order, and the first that applies refuses; the length is refused for 9 and 10 alone.
 pub record RepliesRight (sheet : List ℕ) (m : Model) (buffer scratch : ℕ) : Type 0 where
   pub nine : (k : ℕ) → k < groupCount (groupsOf m) → 64 < size m (groupsOf m) k
@@ -151,6 +156,10 @@ pub record PlanRight (m : Model) (plan : List ℕ) : Type 0 where
   pub modes : (k : ℕ) → ModesRight m (groupsOf m) k
   pub entries : (k p q : ℕ) → k < groupCount (groupsOf m) → p < size m (groupsOf m) k → q < size m (groupsOf m) k
       → EntryRight m (groupsOf m) k p q (entryAt m plan k p q)
+  -- no group has more than 64 modes, so no shortest chain has more than 63 moves: 254 and 255 are free
+  pub small : SmallGroups m (groupsOf m)
+  pub few-moves : (k d p q : ℕ) → k < groupCount (groupsOf m) → q < size m (groupsOf m) k
+      → ShortestRoute m (groupsOf m) k d p q → d < 64
   -- no chain leaves the live modes
   pub stays-live : (k d p q : ℕ) → Route m (groupsOf m) k d p q → liveMode m (groupsOf m) k p ≡ true
       → liveMode m (groupsOf m) k q ≡ true

@@ -4,7 +4,7 @@ ghost use Rattle.sheet.specs.Model.{Model};
 ghost use Rattle.sheet.specs.Valid.{Valid};
 ghost use Rattle.plan.specs.Groups.{groupsOf};
 ghost use Rattle.plan.specs.Laws.{Lawful};
-ghost use Rattle.plan.specs.Meaning.{GroupsRight, ModesRight, Planned, Replied, UsableRight};
+ghost use Rattle.plan.specs.Meaning.{BoundsRight, GroupsRight, ModesRight, Planned, Replied, UsableRight};
 
 // The groups are exactly the sets of machines that need one another, numbered so that needs come first.
 pub fn groups_are_right()
@@ -20,6 +20,12 @@ pub fn modes_are_right()
 pub fn usable_is_right()
     ensures { λ _. ⌜ ((m : Model) → Valid m → UsableRight m (groupsOf m)) ⌝ }
 {}
+
+// The bound of every sheet that passes 1 to 8 is the sum of the costs.
+pub fn bounds_are_right()
+    ensures { λ _. ⌜ BoundsRight ⌝ }
+{
+}
 
 // The replies of planning and of the plan's length: 9 to 12, the first that applies.
 pub fn replies_are_right()
