@@ -33,7 +33,7 @@ module _ (m : Model) (valid : Valid m) (plan : List ℕ) (shaped : wellShaped m 
 pub upstream-right : UpstreamRight
 upstream-right m plan k a valid shaped h = (
   λ u.
-  let c = upstream-chain m (groupsIn m plan) k a u in
-  started m (groupsIn m plan) (c .0) k a (c .1) (upstream-other m (groupsIn m plan) k a u),
+      let c = upstream-chain m (groupsIn m plan) k a u in
+      started m (groupsIn m plan) (c .0) k a (c .1) (upstream-other m (groupsIn m plan) k a u),
   ancestor-upstream m valid plan shaped h,
 )

@@ -30,16 +30,18 @@ pub goal-passes : GoalPasses
 unfolding goalFaults badByte
 goal-passes m goal = (
   λ h.
-  let c = clear-each _ h in
-  (ltb-false _ _ (c .0), λ i l.
-  let n = any-none _ (c .1 .0) (upTo-mem l) in
-  (eqb-false _ _ (or-false-left (eqb (byte goal i) 0) _ n), or-false-right (eqb (byte goal i) 0) _ n)),
+      let c = clear-each _ h in (
+        ltb-false _ _ (c .0),
+        λ i l.
+            let n = any-none _ (c .1 .0) (upTo-mem l) in
+            (eqb-false _ _ (or-false-left (eqb (byte goal i) 0) _ n), or-false-right (eqb (byte goal i) 0) _ n),
+      ),
   λ g. each-clear _ (
     le-ltb _ _ (g .0),
     (
       any-fails _ (upTo (length goal)) (λ i l.
-      let b = g .1 i (upTo-below (length goal) l) in
-      or-false-intro (ne-eqb _ _ (b .0)) (b .1)),
+          let b = g .1 i (upTo-below (length goal) l) in
+          or-false-intro (ne-eqb _ _ (b .0)) (b .1)),
       tt,
     ),
   ),

@@ -102,7 +102,7 @@ module _ {m : Model} {plan : List ℕ} {Usable : ℕ → Type 0} {longest cost :
       (λ unmet.
       let h = covered-heading valid laws sound masks k le unmet c in
       let f = Following.fulfil-unmet m plan state masks k unmet
-          ∙ Following.follow-fit m plan state _ masks k (Heading.heading-fits valid laws sound masks k h) in
+      ∙ Following.follow-fit m plan state _ masks k (Heading.heading-fits valid laws sound masks k h) in
       by-cases (holdsOutside m plan state k (moveAt m (firstMove m plan state masks k)))
       (λ o. (
         _,

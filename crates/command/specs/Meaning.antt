@@ -28,7 +28,7 @@ abbrev pub GoalPasses : Type 0
 GoalPasses =
     (m : Model) (goal : List ℕ) → (clear (goalFaults m goal) ≡ true)
     ↔ ((length goal ≤ machineCount m)
-      × ((i : ℕ) → i < length goal → (byte goal i ≡ 0 → ⊥) × (beyond (modeCount m i) (byte goal i) ≡ false)))
+    × ((i : ℕ) → i < length goal → (byte goal i ≡ 0 → ⊥) × (beyond (modeCount m i) (byte goal i) ≡ false)))
 
 -- The group modes of a state that passes 13, under any shaped plan.
 pub record StateRight (m : Model) (plan state : List ℕ) : Type 0 where

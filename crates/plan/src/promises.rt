@@ -24,8 +24,7 @@ pub fn usable_is_right()
 // The bound of every sheet that passes 1 to 8 is the sum of the costs.
 pub fn bounds_are_right()
     ensures { λ _. ⌜ BoundsRight ⌝ }
-{
-}
+{}
 
 // The replies of planning and of the plan's length: 9 to 12, the first that applies.
 pub fn replies_are_right()
