@@ -1,4 +1,4 @@
--- "Upstream": every group that a group needs, directly or through others.
+-- "Upstream" of a group: the groups that it reaches through needs.
 use Prim.Native.Nat.{ℕ, zero, suc, _<_}
 use mathlib.Core.Path.{_≡_}
 use mathlib.Core.Logic.{_↔_}
@@ -12,7 +12,7 @@ use Rattle.sheet.specs.Valid.{Valid}
 use Rattle.plan.specs.Groups.{Grouping, groupCount, movesOf, namedOutside}
 use Rattle.plan.specs.Reading.{groupsIn, wellShaped}
 
--- n - 1, .. 1, 0: "from the highest number down"
+-- n - 1, .. 1, 0
 unfoldable pub downTo : ℕ → List ℕ
 downTo zero = []
 downTo (suc n) = n ∷ downTo n

@@ -16,7 +16,7 @@ abbrev pub noneActs : ℕ
 noneActs = 255
 
 module _ (m : Model) (state : List ℕ) (machine command : ℕ) where
-  -- move v is of that machine, from its present mode, with that byte, and all its needs hold
+  -- move v answers the command: its machine and byte, from the mode that the machine is in, nothing that it needs missing
   unfoldable pub acts : ℕ → Bool
   acts v =
       eqb (moveAt m v .machine) machine
@@ -27,7 +27,7 @@ module _ (m : Model) (state : List ℕ) (machine command : ℕ) where
   unfoldable pub actingMove : ℕ
   actingMove = find acts (upTo (moveCount m)) noneActs
 
-  -- that one machine takes the to mode; otherwise nothing changes
+  -- the state with the acting move made, or as it was
   unfoldable pub stateBy : List ℕ
   stateBy = cond (eqb actingMove noneActs) state (set state machine (moveAt m actingMove .to))
 

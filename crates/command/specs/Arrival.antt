@@ -33,14 +33,14 @@ module _ (sheet plan goal : List ℕ) (m : Model) where
 
   -- what asking replies in a situation
   pub record Asked (s : Situation) : Type 0 where
-    -- no asking refuses
+    -- the reply is no refusal
     pub answered : (r : Next) × (nextReply sheet plan (s .state) goal ≡ given r)
-    -- done exactly when every group is as wished, and a command otherwise
+    -- done if the goal is reached, and only then
     pub done-exactly : (nextReply sheet plan (s .state) goal ≡ given done) ↔ Reached (s .state)
-    -- every command finds its needs met: a move of that machine and byte acts
+    -- a command that is given acts: some move answers it
     pub finds-needs : (i c : ℕ) → nextReply sheet plan (s .state) goal ≡ given (command i c)
         → (v : ℕ) × (v < moveCount m) × (acts m (s .state) i c v ≡ true)
-    -- and is given only while fewer have been applied than the number written in the plan
+    -- and there is room left under the bound
     pub within-bound : (i c : ℕ) → nextReply sheet plan (s .state) goal ≡ given (command i c) → s .applied < boundIn m plan
 
   -- what applying the pending command does
@@ -66,12 +66,12 @@ module _ (sheet plan goal : List ℕ) (m : Model) where
     pub within : afterAll sheet plan goal start calls .applied ≤ boundIn m plan
     pub arrives : (before later : List Call) → calls ≡ before ++ later
         → boundIn m plan ≤ afterAll sheet plan goal start before .applied → Reached (afterAll sheet plan goal start before .state)
-    -- once all groups from g upward are as wished, none of them leaves its wish at any later call
+    -- groups from g upward that are all met at some call are all met ever after
     pub stays : (before between later : List Call) → calls ≡ before ++ (between ++ later) → (g : ℕ)
         → AsWishedFrom (afterAll sheet plan goal start before .state) g
         → AsWishedFrom (afterAll sheet plan goal start (before ++ between) .state) g
 
--- From any sheet that planning accepts, the plan it wrote, any state and goal that pass 13 and 14, the goal covered:
+-- With a sheet and the plan that planning wrote for it, and a state and goal for which none of 13, 14 and 16 to 18 applies,
 -- every list of calls that is a run keeps the promise.
 abbrev pub Arrival : Type 0
 Arrival =

@@ -23,17 +23,17 @@ anyMode = 255
 abbrev pub allows : Masks → ℕ → ℕ → Bool
 allows masks i mode = bit (getD masks i anyMode) mode
 
--- the caller's goal: a machine past its end may be in any mode
+-- the caller's goal; what it does not reach is free
 unfoldable pub goalMasks : Model → List ℕ → Masks
 goalMasks m goal = map (λ i. cond (ltb i (length goal)) (byte goal i) anyMode) (upTo (machineCount m))
 
--- the needs of a move of group k on other groups, taken as a goal: other machines may be in any mode
+-- what a move of group k needs of other groups, as a goal; all other machines are free
 unfoldable pub guardMasks : Model → Grouping → ℕ → Move → Masks
 guardMasks m groups k v =
     map (λ i. cond (eqb (groupOf groups i) k) anyMode (find (λ g. eqb (g .machine) i) (v .guards) (guard i anyMode) .mask))
     (upTo (machineCount m))
 
--- group k is met in a state: its mode is allowed for all its machines
+-- "met": each machine of group k is in a mode that is allowed to it
 unfoldable pub met : Grouping → Masks → List ℕ → ℕ → Bool
 met groups masks state k = all (λ i. allows masks i (modeOf state i)) (members groups k)
 

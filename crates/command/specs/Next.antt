@@ -1,4 +1,4 @@
--- "Next command": for any plan whatever, the reply follows from its entries.
+-- "Next command", by the entries of whatever plan is given.
 use Prim.Native.Nat.{ℕ, zero, suc}
 use mathlib.Core.List.{List, [], _∷_, _++_}
 use mathlib.Core.Bool.{Bool, cond, not, _&&_, _||_}
@@ -31,7 +31,7 @@ module _ (m : Model) (plan : List ℕ) (state : List ℕ) where
       allowed m (groups m plan) masks k q
       && all (λ t. not (allowed m (groups m plan) masks k t) || leb (distanceTo k q) (distanceTo k t)) (upTo (size m (groups m plan) k))
 
-  -- the target of group k: the nearest allowed group mode, ties to the smaller number
+  -- "target" of group k: of the nearest allowed modes, the first
   unfoldable pub targetOf : Masks → ℕ → ℕ
   targetOf masks k = find (nearest masks k) (upTo (size m (groups m plan) k)) 0
 
@@ -46,7 +46,7 @@ module _ (m : Model) (plan : List ℕ) (state : List ℕ) where
   unfoldable pub holdsOutside : ℕ → Move → Bool
   holdsOutside k v = all (λ g. eqb (groupOf (groups m plan) (g .machine)) k || holds (g .machine) (g .mask)) (v .guards)
 
-  -- an entry followed is unfit: no route, its move not one of group k from the present mode, or a need inside k fails
+  -- 15 for an entry: it shows no route, or its move is absent, of another group, from another mode, or held up inside k
   unfoldable pub unfit : ℕ → Entry → Bool
   unfit k e =
       eqb (e .distance) 255

@@ -6,11 +6,11 @@ use Rattle.command.specs.Next.{Next, done, command, nextReply}
 use Rattle.command.specs.Apply.{applyReply, stateAfter}
 
 pub data Call : Type 0 where
-  -- "asking": next command with this sheet, plan and goal
+  -- "asking": next command, with the run's own bytes
   ask : Call
-  -- "applying": the command that the latest asking replied, with no applying between the two
+  -- "applying": what was last asked for, once
   apply : Call
-  -- "refused": next command, or applying a command, lent other bytes beside the state and refused for them
+  -- "refused": a call with the same state and other bytes, which is refused
   refusedNext : (sheet plan goal : List ℕ) → Call
   refusedApply : (sheet : List ℕ) (machine command : ℕ) → Call
 

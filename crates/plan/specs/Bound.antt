@@ -8,13 +8,13 @@ use Rattle.common.specs.Graph.{Matrix, between, connected}
 use Rattle.sheet.specs.Model.{Model}
 use Rattle.plan.specs.Groups.{Grouping, groupCount, movesOf, namedOutside}
 
--- L: the largest distance in a group, routes only
+-- L of a group: the distance of its farthest two modes that a route joins
 unfoldable pub longest : Matrix → ℕ
 longest d =
     maximum (map (λ p. maximum (map (λ q. cond (connected d p q) (between d p q) 0) (upTo (length d)))) (upTo (length d)))
 
 module _ (m : Model) (groups : Grouping) (routes : List Matrix) where
-  -- the cost of group k, given those of the lower groups: L × (1 + the costs of the outside groups its moves name)
+  -- the cost of group k, given those of the lower groups: for each of L moves, itself and what preparing it may cost
   unfoldable pub costIn : List ℕ → ℕ → ℕ
   costIn lower k =
       longest (getD routes k []) * (1 + sum (map (λ a. getD lower a 0) (namedOutside m groups k (movesOf m groups k))))
@@ -26,6 +26,6 @@ module _ (m : Model) (groups : Grouping) (routes : List Matrix) where
       let lower = costsUpto k in
       lower ++ (costIn lower k ∷ [])
 
-  -- the sum of all costs
+  -- what all groups cost together
   unfoldable pub boundOf : ℕ
   boundOf = sum (costsUpto (groupCount groups))

@@ -27,7 +27,7 @@ module _ (m : Model) (groups : Grouping) where
   unfoldable pub tableIn : List Matrix → ℕ → List ℕ
   tableIn routes k = tableOf m groups k (usableMoves m groups routes k) (getD routes k [])
 
-  -- kind 16, then kind 17 for each group in order, then kind 18, then kind 3
+  -- group numbers (16), a table for each group (17), the bound (18), the end (3)
   unfoldable pub bytesOf : List Matrix → List ℕ
   bytesOf routes =
       recordOf 16 groups

@@ -29,7 +29,7 @@ smallestMember groups k = find (λ i. eqb (groupOf groups i) k) (upTo (length gr
 
 -- The numbering, over the graph of needs and its distances. A machine that has no number yet has the machine count.
 module _ (g : Graph) (d : Matrix) where
-  -- i and j need one another, directly or through others
+  -- each of i and j reaches the other through needs
   unfoldable pub together : ℕ → ℕ → Bool
   together i j = connected d i j && connected d j i
 

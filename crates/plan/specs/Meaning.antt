@@ -21,8 +21,7 @@ use Rattle.plan.specs.Bytes.{planLength}
 use Rattle.plan.specs.Planning.{lengthReply, planReply, ownPlan}
 use Rattle.plan.specs.Reading.{groupsIn, entryAt, boundIn, wellShaped}
 
--- "The groups are exactly the sets of machines that need one another, directly or through others,
--- numbered so that needs come first", for every sheet that passes 1 to 8.
+-- The groups of a sheet: mutual reach, no more and no less, and lower numbers for what is needed.
 pub record GroupsRight (m : Model) (groups : Grouping) : Type 0 where
   pub numbers-all : length groups ≡ machineCount m
   pub exactly : (i j : ℕ) → i < machineCount m → j < machineCount m
@@ -32,13 +31,13 @@ pub record GroupsRight (m : Model) (groups : Grouping) : Type 0 where
   pub gapless : (k : ℕ) → k < groupCount groups → (i : ℕ) × (i < machineCount m) × (groupOf groups i ≡ k)
   pub needs-first : (i j : ℕ) → i < machineCount m → j < machineCount m → needs m i j ≡ true
       → groupOf groups j ≤ groupOf groups i
-  -- among groups whose needed outside groups are all numbered, the one holding the smallest machine comes next
+  -- when number k is given, no group that could take it holds a smaller machine than the one that does
   pub smallest-next : (k j : ℕ) → k < groupCount groups → j < machineCount m → k ≤ groupOf groups j
       → ((a b : ℕ) → a < machineCount m → b < machineCount m → groupOf groups a ≡ groupOf groups j → needs m a b ≡ true
       → (groupOf groups b ≡ groupOf groups j → ⊥) → groupOf groups b < k)
       → smallestMember groups k ≤ j
 
--- A route is a chain of usable moves in one group; usable speaks of routes in lower groups.
+-- Routes and usable moves, each by the other: a route is made of usable moves, and usable asks for routes in lower groups.
 module _ (m : Model) (groups : Grouping) where
   mutual
     -- d moves lead from group mode p to q of group k
@@ -47,8 +46,8 @@ module _ (m : Model) (groups : Grouping) where
       move : {k d p q : ℕ} (v : ℕ) → List·Memᴰ v (movesOf m groups k) → Usable v → p < size m groups k
           → leads m groups k (moveAt m v) p ≡ true → Route k d (target m groups k (moveAt m v) p) q → Route k (suc d) p q
 
-    -- for each outside group a that v names, every live mode p has a route to some mode, `to` a p, in `steps` a p moves,
-    -- that meets all its needs on a together
+    -- from each live mode p of an outside group a that v names, `steps` a p moves lead to the mode `to` a p, where all that v
+    -- needs of a holds at once
     pub data Usable : ℕ → Type 0 where
       always : {v : ℕ} (to steps : ℕ → ℕ → ℕ)
           → ((a p : ℕ) → List·Memᴰ a (namedOutside m groups (groupOf groups (moveAt m v .machine)) (v ∷ []))
@@ -62,7 +61,7 @@ module _ (m : Model) (groups : Grouping) where
   abbrev pub ShortestRoute : ℕ → ℕ → ℕ → ℕ → Type 0
   ShortestRoute k d p q = Route k d p q × ((c : ℕ) → Route k c p q → d ≤ c)
 
-  -- "the first move of a shortest route within its group, or says that none exists, and then none does"
+  -- An entry is right: its distance is that of a shortest chain, its move starts one, and it says none only where none is.
   pub record EntryRight (k p q : ℕ) (e : Entry) : Type 0 where
     -- distance d other than 255 exactly if there is a chain of d moves and none shorter
     pub shortest : (d : ℕ) → (d ≡ 255 → ⊥) → (e .distance ≡ d) ↔ ShortestRoute k d p q
@@ -77,8 +76,8 @@ module _ (m : Model) (groups : Grouping) where
     -- 0, 254 from a mode to itself
     pub itself : p ≡ q → e ≡ entry 0 254
 
-  -- "the plan's bound is document 01's sum": L is the largest distance in a group, routes only; the cost of a group is
-  -- L × (1 + the costs of the outside groups its moves name); the bound is the sum of all costs
+  -- A bound is right: L is the length of a longest shortest route, costs follow the rule of L and the named groups' costs, and
+  -- the bound adds them up.
   pub record BoundRight (bound : ℕ) : Type 0 where
     pub longest : ℕ → ℕ
     pub cost : ℕ → ℕ

@@ -25,11 +25,11 @@ module _ (m : Model) (groups : Grouping) where
   unfoldable pub largePlace : ℕ
   largePlace = smallestMember groups (find large (upTo (groupCount groups)) 0)
 
-  -- 10: the squares of the groups' mode counts sum above 16,384
+  -- 10: the tables have more than 16,384 entries together
   unfoldable pub largePlan : Bool
   largePlan = ltb 16384 (sum (map (λ k. size m groups k * size m groups k) (upTo (groupCount groups))))
 
-  -- 11: the bound is above 65,535
+  -- 11: the bound does not fit 16 bits
   unfoldable pub largeBound : Bool
   largeBound = ltb 65535 (boundOf m groups (routesUpto m groups (groupCount groups)))
 

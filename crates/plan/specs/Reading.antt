@@ -32,7 +32,7 @@ entryAt m plan k p q =
     let groups = groupsIn m plan in
     entryIn (tableOfGroup m groups plan k) (size m groups k) p q
 
--- "a route is an entry whose distance isn't 255"
+-- whether an entry is a route: 255 says that there is none
 abbrev pub isRoute : Entry → Bool
 isRoute e = not (eqb (e .distance) 255)
 
@@ -44,11 +44,11 @@ isWhole Cut k n = false
 unfoldable pub hasRecord : List ℕ → ℕ → ℕ → ℕ → Bool
 hasRecord plan at k n = isWhole (recordAt plan at) k n
 
--- group numbers without gaps from 0
+-- every number below the count is some machine's
 unfoldable pub gapless : Grouping → Bool
 gapless groups = all (λ k. any (eqb k) groups) (upTo (groupCount groups))
 
--- no need above its move's group
+-- what a move needs is never in a higher group
 unfoldable pub needsFirst : Model → Grouping → Bool
 needsFirst m groups = all (λ v. all (λ g. leb (groupOf groups (g .machine)) (groupOf groups (v .machine))) (v .guards)) (m .moves)
 

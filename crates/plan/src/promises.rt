@@ -6,7 +6,7 @@ ghost use Rattle.plan.specs.Groups.{groupsOf};
 ghost use Rattle.plan.specs.Laws.{Lawful};
 ghost use Rattle.plan.specs.Meaning.{BoundsRight, GroupsRight, ModesRight, Planned, Replied, UsableRight};
 
-// The groups are exactly the sets of machines that need one another, numbered so that needs come first.
+// The groups of a sheet are its sets of mutual need, and the needed ones have lower numbers.
 pub fn groups_are_right()
     ensures { λ _. ⌜ ((m : Model) → Valid m → GroupsRight m (groupsOf m)) ⌝ }
 {}
