@@ -19,3 +19,4 @@ pub mod Steps
 pub mod Stops
 pub mod Turns
 pub mod Valid
+pub mod Written
