@@ -2,6 +2,7 @@ pub mod Answers
 pub mod Arrays
 pub mod BadGuards
 pub mod BadMoves
+pub mod Bodies
 pub mod Bytes
 pub mod Counts
 pub mod Fits
@@ -12,9 +13,11 @@ pub mod Keys
 pub mod Modes
 pub mod Order
 pub mod Parsed
+pub mod Passes
 pub mod Place
 pub mod Records
 pub mod Scanning
+pub mod Series
 pub mod Steps
 pub mod Stops
 pub mod Turns
