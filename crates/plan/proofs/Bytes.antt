@@ -33,8 +33,8 @@ module _ {s : List ℕ} {at : ℕ} where
         stands-at w 3 (at + 3) 0 (omega arith) (omega arith),
       )
 
-  pub record-shown : (kind : ℕ) (body : List ℕ) → Stands s at (recordOf kind body) → {n : ℕ} → length body ≡ n → n < 65536
-      → kind < 65536 → hasRecord s at kind n ≡ true
+  pub record-shown : (kind : ℕ) (body : List ℕ) → Stands s at (recordOf kind body) → {n : ℕ} → length body ≡ n
+      → n < 65536 → kind < 65536 → hasRecord s at kind n ≡ true
   unfolding hasRecord
   record-shown kind body w {n} e h k =
       rw (record-read kind body w (omega arith) k) (and-intro (eq-eqb kind kind refl) (eq-eqb (length body) n e))

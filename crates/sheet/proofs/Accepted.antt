@@ -1,9 +1,9 @@
--- The sheet of a valid model is accepted, and read as that model: its machines pass one by one, then its moves, then the
--- end.
+-- The sheet of a valid model is accepted, and read as that model: its machines pass one by one, then its moves, and
+-- then the end.
 -- Assumes nothing.
-use Prim.Native.Nat.{ℕ, zero, suc, _+_, _-_, _%_, _≤_, _<_}
+use Prim.Native.Nat.{ℕ, _+_, _-_, _≤_, _<_}
 use mathlib.Core.Path.{_≡_, refl, sym, ap, ap₂, subst, _∙_}
-use mathlib.Core.List.{List, [], _∷_, _++_, flatMap}
+use mathlib.Core.List.{List, [], _++_, flatMap}
 use mathlib.Core.Bool.{Bool, true, false, _&&_}
 use native.Mathlib.Omega.{arith}
 use borrow.Author.Tests.{eqb-true}
@@ -17,7 +17,7 @@ use Rattle.common.proofs.Lists.{any-fails}
 use Rattle.common.proofs.Members.{mem-index}
 use Rattle.common.proofs.Places.{Stands, stands-whole, stands-moved, stands-left, stands-right}
 use Rattle.sheet.specs.Record.{recordOf}
-use Rattle.sheet.specs.Model.{Move, Model, emptyModel, noMove, machineCount, moveCount, modeCount, moveAt, moveOf}
+use Rattle.sheet.specs.Model.{Move, Model, noMove, machineCount, moveCount, modeCount, moveAt}
 use Rattle.sheet.specs.Model.{withMachine, withMove}
 use Rattle.sheet.specs.Faults.{sameMove, faultsOf}
 use Rattle.sheet.specs.Valid.{Valid}
@@ -115,56 +115,55 @@ module _ (m : Model) where
               ap₂ withMove e (move-back (moveAt m k)) ∙ ap (withMoves m) (sym (take-suc (m .moves) k noMove h));
         }
 
-    module _ (some : 0 < machineCount m) where
-      written : Stands (sheetBytes m) 0 (machineRecords ++ moveRecords ++ recordOf 3 [])
-      unfolding sheetBytes
-      written = stands-whole _
+    written : Stands (sheetBytes m) 0 (machineRecords ++ moveRecords ++ recordOf 3 [])
+    unfolding sheetBytes
+    written = stands-whole _
 
-      front : Stands (sheetBytes m) 0 (machineRecords ++ moveRecords)
-      front = stands-left _ (recordOf 3 []) written
+    front : Stands (sheetBytes m) 0 (machineRecords ++ moveRecords)
+    front = stands-left _ (recordOf 3 []) written
 
-      all-machines : firstMachines (machineCount m) ≡ firstMoves 0
-      all-machines =
-          ap₂ (λ xs ys. record { modes = xs; live = ys; moves = [] })
-          (take-length (m .modes)) (take-all (machineCount m) (m .live) (omega (arith, ok .same-length)))
+    all-machines : firstMachines (machineCount m) ≡ firstMoves 0
+    all-machines =
+        ap₂ (λ xs ys. record { modes = xs; live = ys; moves = [] })
+        (take-length (m .modes)) (take-all (machineCount m) (m .live) (omega (arith, ok .same-length)))
 
-      -- where the moves begin, and where the end record does
-      abbrev movesAt : ℕ
-      movesAt = 0 + length machineRecords
+    -- where the moves begin, and where the end record does
+    abbrev movesAt : ℕ
+    movesAt = 0 + length machineRecords
 
-      abbrev endAt : ℕ
-      endAt = movesAt + length moveRecords
+    abbrev endAt : ℕ
+    endAt = movesAt + length moveRecords
 
-      through-machines : Comes (sheetBytes m) (283 - machineCount m) movesAt (firstMoves 0)
-      through-machines =
-          subst (Comes (sheetBytes m) (283 - machineCount m) movesAt) all-machines
-          (comes-through machine-series (omega arith) (λ e. omega arith) (stands-left machineRecords moveRecords front)
-          (omega (arith, ok .few-machines)) (comes-first (sheetBytes m)) (machineCount m) (omega arith))
+    through-machines : Comes (sheetBytes m) (283 - machineCount m) movesAt (firstMoves 0)
+    through-machines =
+        subst (Comes (sheetBytes m) (283 - machineCount m) movesAt) all-machines
+        (comes-through machine-series (omega arith) (λ e. omega arith) (stands-left machineRecords moveRecords front)
+        (omega (arith, ok .few-machines)) (comes-first (sheetBytes m)) (machineCount m) (omega arith))
 
-      through-moves : Comes (sheetBytes m) (283 - machineCount m - moveCount m) endAt m
-      through-moves =
-          subst (Comes (sheetBytes m) (283 - machineCount m - moveCount m) endAt)
-          (ap (withMoves m) (take-length (m .moves)))
-          (comes-through move-series (omega arith) (λ e. omega arith) (stands-right machineRecords moveRecords front)
-          (omega (arith, ok .few-machines, ok .few-moves)) through-machines (moveCount m) (omega arith))
+    through-moves : Comes (sheetBytes m) (283 - machineCount m - moveCount m) endAt m
+    through-moves =
+        subst (Comes (sheetBytes m) (283 - machineCount m - moveCount m) endAt)
+        (ap (withMoves m) (take-length (m .moves)))
+        (comes-through move-series (omega arith) (λ e. omega arith) (stands-right machineRecords moveRecords front)
+        (omega (arith, ok .few-machines, ok .few-moves)) through-machines (moveCount m) (omega arith))
 
-      end-stands : Stands (sheetBytes m) endAt (recordOf 3 [])
-      end-stands =
-          stands-moved (stands-right (machineRecords ++ moveRecords) (recordOf 3 []) written)
-          (omega (arith, length-append machineRecords moveRecords))
+    end-stands : Stands (sheetBytes m) endAt (recordOf 3 [])
+    end-stands =
+        stands-moved (stands-right (machineRecords ++ moveRecords) (recordOf 3 []) written)
+        (omega (arith, length-append machineRecords moveRecords))
 
-      end-last : length (sheetBytes m) ≤ endAt + 4
-      unfolding sheetBytes
-      end-last =
-          omega (
-            arith,
-            length-append (machineRecords ++ moveRecords) (recordOf 3 []),
-            length-append machineRecords moveRecords,
-            length-recordOf 3 [],
-          )
+    end-last : length (sheetBytes m) ≤ endAt + 4
+    unfolding sheetBytes
+    end-last =
+        omega (
+          arith,
+          length-append (machineRecords ++ moveRecords) (recordOf 3 []),
+          length-append machineRecords moveRecords,
+          length-recordOf 3 [],
+        )
 
-      pub sheet-accepted : (d : Parsed) × (parse (sheetBytes m) ≡ given d) × (d .model ≡ m)
-      unfolding faultsOf
-      sheet-accepted =
-          comes-to-end through-moves (omega (arith, ok .few-machines, ok .few-moves)) end-stands end-last
-          (end-clear m _ [] refl some)
+    pub sheet-accepted : 0 < machineCount m → (d : Parsed) × (parse (sheetBytes m) ≡ given d) × (d .model ≡ m)
+    unfolding faultsOf
+    sheet-accepted some =
+        comes-to-end through-moves (omega (arith, ok .few-machines, ok .few-moves)) end-stands end-last
+        (end-clear m _ [] refl some)

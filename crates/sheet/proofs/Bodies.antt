@@ -1,12 +1,11 @@
 -- The bodies of a sheet as they are written: their lengths, and the move that a body gives back.
 -- Assumes nothing.
-use Prim.Native.Nat.{ℕ, zero, suc, _+_, _-_, _*_, _/_, _<_}
-use mathlib.Core.Path.{_≡_, refl, sym, ap, ap₂, _∙_}
-use mathlib.Core.List.{List, [], _∷_, flatMap}
+use Prim.Native.Nat.{ℕ, zero, suc, _+_, _*_, _<_}
+use mathlib.Core.Path.{_≡_, refl, ap, ap₂, _∙_}
+use mathlib.Core.List.{List, [], _∷_, _++_, flatMap}
 use native.Mathlib.Omega.{arith}
 use lib.ListN.{length, getD}
 use lib.Seq.{getD-append-add, ext-getD}
-use Rattle.common.proofs.Members.{getD-map-upTo}
 use Rattle.sheet.specs.Record.{byte}
 use Rattle.sheet.specs.Model.{Guard, Move, Model, guard, noGuard, guardAt, moveOf}
 use Rattle.sheet.specs.Write.{machineBody, guardBytes, moveBody}
@@ -22,6 +21,7 @@ unfolding flatMap
 length-guards [] = omega arith
 length-guards (g ∷ gs) = omega (arith, length-guards gs)
 
+-- the needs, two bytes each, at twice their number
 pub guard-bytes : (gs : List Guard) (n : ℕ)
     → (byte (flatMap guardBytes gs) (2 * n) ≡ getD gs n noGuard .machine)
     × (byte (flatMap guardBytes gs) (1 + 2 * n) ≡ getD gs n noGuard .mask)
@@ -31,11 +31,10 @@ guard-bytes (g ∷ gs) zero = (refl, refl)
 guard-bytes (g ∷ gs) (suc n) =
     let a : 2 * suc n ≡ 2 + 2 * n = omega arith in
     let b : 1 + 2 * suc n ≡ 2 + (1 + 2 * n) = omega arith in
-    let r = guard-bytes gs n in
-    (
-      ap (byte (flatMap guardBytes (g ∷ gs))) a ∙ getD-append-add (guardBytes g) (flatMap guardBytes gs) (2 * n) 0 ∙ r .0,
-      ap (byte (flatMap guardBytes (g ∷ gs))) b ∙ getD-append-add (guardBytes g) (flatMap guardBytes gs) (1 + 2 * n) 0 ∙ r .1
-    )
+    let rest = flatMap guardBytes gs in
+    let machine = ap (byte (guardBytes g ++ rest)) a ∙ getD-append-add (guardBytes g) rest (2 * n) 0 in
+    let mask = ap (byte (guardBytes g ++ rest)) b ∙ getD-append-add (guardBytes g) rest (1 + 2 * n) 0 in
+    (machine ∙ guard-bytes gs n .0, mask ∙ guard-bytes gs n .1)
 
 module _ (v : Move) where
   pub length-moveBody : length (moveBody v) ≡ 4 + 2 * length (v .guards)

@@ -19,6 +19,7 @@ pub mod Place
 pub mod Records
 pub mod Scanning
 pub mod Series
+pub mod SheetBytes
 pub mod Steps
 pub mod Stops
 pub mod Turns

@@ -14,7 +14,7 @@ use Rattle.common.proofs.Bools.{or-false-intro, not-of-true}
 use Rattle.common.proofs.Lists.{any-fails}
 use Rattle.common.proofs.Members.{upTo-below}
 use Rattle.common.proofs.Reply.{Clear}
-use Rattle.sheet.specs.Model.{Move, Model, machineCount, moveCount, modeCount, guardAt, moveOf}
+use Rattle.sheet.specs.Model.{Move, Model, machineCount, moveCount, modeCount, guardAt}
 use Rattle.sheet.specs.Faults.{wrongMoveLength, badMachine, badMove, badGuard, badGuards, badCommand}
 use Rattle.sheet.specs.Faults.{machineFaults, moveFaults, endFaults}
 use Rattle.sheet.specs.Valid.{ValidMove, ValidMachine}
@@ -77,7 +77,8 @@ module _ (m : Model) (at : ℕ) (body : List ℕ) where
   unfolding machineFaults
   machine-clear p =
       let a = not-of-true (eq-eqb _ 2 (p .two-bytes)) in
-      let b = or-false-intro (le-ltb 0 (moveCount m) (omega (arith, p .no-move-yet))) (lt-leb 32 (machineCount m) (p .room)) in
+      let early = le-ltb 0 (moveCount m) (omega (arith, p .no-move-yet)) in
+      let b = or-false-intro early (lt-leb 32 (machineCount m) (p .room)) in
       (a, (b, (machine-not-bad _ _ (p .valid), tt)))
 
   pub move-clear : ((i : ℕ) → i < machineCount m → 0 < modeCount m i) → MovePasses m body → Clear (moveFaults m at body)
@@ -85,7 +86,8 @@ module _ (m : Model) (at : ℕ) (body : List ℕ) where
   move-clear some p =
       let v = p .valid in
       let a = length-not-wrong (length body) (p .long) (p .short) (p .even) in
-      let b = or-false-intro (ne-eqb (machineCount m) 0 (λ e. omega (arith, p .has-machine))) (lt-leb 250 (moveCount m) (p .room)) in
+      let present = ne-eqb (machineCount m) 0 (λ e. omega (arith, p .has-machine)) in
+      let b = or-false-intro present (lt-leb 250 (moveCount m) (p .room)) in
       let c = or-false-intro (ne-eqb _ 0 (v .command-given)) (p .new) in
       (a, (b, (move-not-bad m _ v, (guards-not-bad m _ v some, (c, tt)))))
 

@@ -7,7 +7,7 @@ use native.Mathlib.Omega.{arith}
 use lib.ListN.{length, length-append}
 use Rattle.common.specs.Lists.{upTo}
 use Rattle.common.specs.Reply.{given}
-use Rattle.common.proofs.Places.{Stands, stands-moved, stands-fits, stands-flatMap}
+use Rattle.common.proofs.Places.{Stands, stands-moved, stands-flatMap}
 use Rattle.common.proofs.Reply.{Clear}
 use Rattle.common.proofs.Sums.{length-flatMap, flatMap-upTo-suc}
 use Rattle.sheet.specs.Record.{part, recordOf}
@@ -56,13 +56,12 @@ module _ {s : List ℕ} {left at : ℕ} {m : Model} (c : Comes s left at m) (som
       → (d : Parsed) × (parse s ≡ given d) × (d .model ≡ m)
   comes-to-end w last clear =
       let d = c .before in
-      let k : Clear (faultsOf (d .model) at 3 (part s (at + 4) 0)) = rw (c .has-read, body-read 3 [] w) clear in
-      (
+      let k : Clear (faultsOf (d .model) at 3 (part s (at + 4) 0)) = rw (c .has-read, body-read 3 [] w) clear in (
         d,
         c .goes
-        ∙ parse-ended s at d left some (record-read 3 [] w (omega arith) (omega arith))
-        (turn-ends s at d 3 (at + 4) 0 k refl (omega arith)),
-        c .has-read
+            ∙ parse-ended s at d left some (record-read 3 [] w (omega arith) (omega arith))
+            (turn-ends s at d 3 (at + 4) 0 k refl (omega arith)),
+        c .has-read,
       )
 
 -- records of one kind, and the models that are read before each of them
