@@ -7,7 +7,7 @@ use Rattle.common.specs.Bits.{bit, beyond}
 use Rattle.common.specs.Graph.{successors, marked, single, grown, layersFrom, layers, distancesTo, distances, between, connected}
 use Rattle.common.specs.Lists.{upTo, all, any, filter, position, find, sum, product, maximum}
 use Rattle.common.specs.Reply.{Reply, given, refused, clear, unless, andThen}
-use Rattle.sheet.specs.Record.{word, recordAt, part}
+use Rattle.sheet.specs.Record.{word, recordAt, part, twoBytes, recordOf}
 use Rattle.sheet.specs.Model.{Model, moveOf, withMachine, withMove}
 use Rattle.sheet.specs.Faults.{wrongMoveLength, badMachine, badMove, badGuard, badGuards, sameMove, badCommand}
 use Rattle.sheet.specs.Faults.{machineFaults, moveFaults, endFaults, faultsOf}
@@ -20,7 +20,7 @@ use Rattle.plan.specs.Usable.{meets, leads, target, alwaysMet, usable}
 use Rattle.plan.specs.Routes.{usableMoves, moveGraph, routesIn, routesUpto}
 use Rattle.plan.specs.Table.{starts, entryOf, tableOf}
 use Rattle.plan.specs.Bound.{longest, costIn, costsUpto, boundOf}
-use Rattle.plan.specs.Bytes.{twoBytes, fourBytes, recordOf, tableIn, bytesOf, tableLength, tableAt, planLength}
+use Rattle.plan.specs.Bytes.{fourBytes, tableIn, bytesOf, tableLength, tableAt, planLength}
 use Rattle.plan.specs.Planning.{large, largeGroup, largePlace, largePlan, largeBound, sizeFaults, wrongBuffer, ownPlan, lengthReply, planReply}
 use Rattle.plan.specs.Reading.{groupsIn, tableOfGroup, entryIn, entryAt, hasRecord, gapless, needsFirst, fitsRecords, wellShaped, boundIn}
 use Rattle.command.specs.State.{absentMode, stateFaults, badByte, goalFaults}

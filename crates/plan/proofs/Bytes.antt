@@ -1,43 +1,26 @@
--- Numbers and records as bytes, read back from the place where they stand.
--- (`between xs piece ys` says that a piece stands in `xs ++ piece ++ ys`.)
+-- Four bytes, and records of a plan, read back from the place where they stand. (Two bytes and records as such are the
+-- sheet's, `Written`.)
 -- Assumes nothing.
-use Prim.Native.Nat.{ℕ, _+_, _-_, _*_, _≤_, _<_}
-use mathlib.Core.Path.{_≡_, refl, ap}
-use mathlib.Core.List.{List, _++_}
+use Prim.Native.Nat.{ℕ, _+_, _*_, _<_}
+use mathlib.Core.Path.{_≡_, refl}
+use mathlib.Core.List.{List}
 use mathlib.Core.Bool.{true}
 use native.Mathlib.Omega.{arith}
-use borrow.Author.Tests.{lt-leb, le-ltb, eq-eqb}
+use borrow.Author.Tests.{eq-eqb}
 use lib.ListN.{length}
 use Rattle.common.proofs.Bools.{and-intro}
-use Rattle.common.proofs.Places.{Stands, stands-moved, stands-left, stands-right, stands-fits, stands-at, stands-taken}
-use Rattle.sheet.specs.declared.record.Record.the-variants.{Whole}
-use Rattle.sheet.specs.Record.{byte, word, recordAt, part}
-use Rattle.plan.specs.Bytes.{twoBytes, fourBytes, recordOf}
+use Rattle.common.proofs.Places.{Stands, stands-at}
+use Rattle.sheet.specs.Record.{byte, twoBytes, recordOf}
+use Rattle.sheet.proofs.Written.{record-read}
+use Rattle.plan.specs.Bytes.{fourBytes}
 use Rattle.plan.specs.Reading.{hasRecord}
-
-pub length-twoBytes : (n : ℕ) → length (twoBytes n) ≡ 2
-unfolding twoBytes
-length-twoBytes n = refl
 
 pub length-fourBytes : (n : ℕ) → length (fourBytes n) ≡ 4
 unfolding fourBytes twoBytes
 length-fourBytes n = refl
 
-pub length-recordOf : (kind : ℕ) (body : List ℕ) → length (recordOf kind body) ≡ 4 + length body
-unfolding recordOf twoBytes
-length-recordOf kind body = omega arith
-
 module _ {s : List ℕ} {at : ℕ} where
-  -- two bytes, and four, give the number back
-  pub word-twoBytes : (n : ℕ) → Stands s at (twoBytes n) → n < 65536 → word s at ≡ n
-  unfolding word twoBytes
-  word-twoBytes n w h =
-      omega (
-        arith,
-        stands-at w 0 at 0 (omega arith) (omega arith),
-        stands-at w 1 (at + 1) 0 (omega arith) (omega arith),
-      )
-
+  -- four bytes give the number back
   pub fourBytes-read : (n : ℕ) → Stands s at (fourBytes n) → n < 4294967296
       → byte s at + 256 * byte s (at + 1) + 65536 * byte s (at + 2) + 16777216 * byte s (at + 3) ≡ n
   unfolding fourBytes twoBytes
@@ -50,40 +33,8 @@ module _ {s : List ℕ} {at : ℕ} where
         stands-at w 3 (at + 3) 0 (omega arith) (omega arith),
       )
 
--- A record: its length, its kind and its body
-
-module _ {s : List ℕ} {at : ℕ} (kind : ℕ) (body : List ℕ) (w : Stands s at (recordOf kind body)) where
-  stands-length : Stands s at (twoBytes (length body))
-  unfolding recordOf
-  stands-length = stands-left (twoBytes (length body)) (twoBytes kind) (stands-left _ body w)
-
-  stands-kind : Stands s (at + 2) (twoBytes kind)
-  unfolding recordOf
-  stands-kind =
-      stands-moved (stands-right (twoBytes (length body)) (twoBytes kind) (stands-left _ body w))
-      (ap (λ i. at + i) (length-twoBytes (length body)))
-
-  pub stands-body : Stands s (at + 4) body
-  unfolding recordOf twoBytes
-  stands-body = stands-right (twoBytes (length body) ++ twoBytes kind) body w
-
-  pub body-read : part s (at + 4) (length body) ≡ body
-  unfolding part
-  body-read = stands-taken stands-body
-
-  pub record-read : length body < 65536 → kind < 65536 → recordAt s at ≡ Whole kind (at + 4) (length body)
-  unfolding recordAt
-  record-read h k =
-      let fits : at + 4 + length body ≤ length s = omega (arith, stands-fits w, length-recordOf kind body) in
-      rw (
-        word-twoBytes (length body) stands-length h,
-        word-twoBytes kind stands-kind k,
-        lt-leb (length s) at (omega arith),
-        le-ltb (length s - at) 4 (omega arith),
-        le-ltb (length s - at - 4) (length body) (omega arith),
-      )
-
-  pub record-shown : {n : ℕ} → length body ≡ n → n < 65536 → kind < 65536 → hasRecord s at kind n ≡ true
+  pub record-shown : (kind : ℕ) (body : List ℕ) → Stands s at (recordOf kind body) → {n : ℕ} → length body ≡ n
+      → n < 65536 → kind < 65536 → hasRecord s at kind n ≡ true
   unfolding hasRecord
-  record-shown {n} e h k =
-      rw (record-read (omega arith) k) (and-intro (eq-eqb kind kind refl) (eq-eqb (length body) n e))
+  record-shown kind body w {n} e h k =
+      rw (record-read kind body w (omega arith) k) (and-intro (eq-eqb kind kind refl) (eq-eqb (length body) n e))

@@ -15,17 +15,18 @@ use Rattle.common.proofs.Lists.{all-intro, map-cong}
 use Rattle.common.proofs.Members.{upTo-below}
 use Rattle.common.proofs.Sums.{length-flatMap}
 use Rattle.common.proofs.Places.{Stands, stands-whole, stands-moved, stands-left, stands-right, stands-flatMap}
+use Rattle.sheet.specs.Record.{recordOf}
 use Rattle.sheet.specs.Model.{Model, machineCount}
+use Rattle.sheet.proofs.Written.{length-recordOf, stands-body, body-read}
 use Rattle.plan.specs.Groups.{Grouping, groupCount}
 use Rattle.plan.specs.Modes.{size}
 use Rattle.plan.specs.Routes.{usableMoves}
 use Rattle.plan.specs.Table.{entryOf}
 use Rattle.plan.specs.Bound.{boundOf}
-use Rattle.plan.specs.Bytes.{fourBytes, recordOf, tableIn, bytesOf, tableLength, tableAt, planLength}
+use Rattle.plan.specs.Bytes.{fourBytes, tableIn, bytesOf, tableLength, tableAt, planLength}
 use Rattle.plan.specs.Reading.{groupsIn, tableOfGroup, entryAt, hasRecord, gapless, needsFirst}
 use Rattle.plan.specs.Reading.{fitsRecords, wellShaped, boundIn}
-use Rattle.plan.proofs.Bytes.{length-fourBytes, length-recordOf, fourBytes-read}
-use Rattle.plan.proofs.Bytes.{stands-body, body-read, record-shown}
+use Rattle.plan.proofs.Bytes.{length-fourBytes, fourBytes-read, record-shown}
 use Rattle.plan.proofs.Tables.{length-tableOf, entryIn-tableOf}
 
 -- what a plan of these groups needs to fit its records

@@ -1,9 +1,10 @@
 -- "The plan": its records and its length.
 use Prim.Native.Nat.{ℕ, _+_, _*_, _/_, _%_}
-use mathlib.Core.List.{List, [], _∷_, _++_, map, flatMap}
-use lib.ListN.{length, getD}
+use mathlib.Core.List.{List, [], _++_, map, flatMap}
+use lib.ListN.{getD}
 use Rattle.common.specs.Lists.{upTo, sum}
 use Rattle.common.specs.Graph.{Matrix}
+use Rattle.sheet.specs.Record.{twoBytes, recordOf}
 use Rattle.sheet.specs.Model.{Model, machineCount}
 use Rattle.plan.specs.Groups.{Grouping, groupCount}
 use Rattle.plan.specs.Modes.{size}
@@ -11,16 +12,9 @@ use Rattle.plan.specs.Routes.{usableMoves}
 use Rattle.plan.specs.Table.{tableOf}
 use Rattle.plan.specs.Bound.{boundOf}
 
--- two bytes, and four, little-endian
-unfoldable pub twoBytes : ℕ → List ℕ
-twoBytes n = n % 256 ∷ n / 256 % 256 ∷ []
-
+-- four bytes, little-endian
 unfoldable pub fourBytes : ℕ → List ℕ
 fourBytes n = twoBytes (n % 65536) ++ twoBytes (n / 65536)
-
--- a record: body length, kind, body
-unfoldable pub recordOf : ℕ → List ℕ → List ℕ
-recordOf kind body = twoBytes (length body) ++ twoBytes kind ++ body
 
 module _ (m : Model) (groups : Grouping) where
   -- the bytes of group k's table, given every group's distances

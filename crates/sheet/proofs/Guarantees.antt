@@ -1,13 +1,20 @@
 -- What reading a sheet promises, from the laws of the parse and of the index.
 -- Assumes nothing.
-use Rattle.sheet.specs.Meaning.{AcceptedValid, RefusedListed, IndexAnswers}
+use Rattle.sheet.specs.Meaning.{AcceptedValid, ValidAccepted, RefusedListed, IndexAnswers}
 use Rattle.sheet.proofs.Parsed.{parse-valid, parse-has-machine}
+use Rattle.sheet.proofs.Accepted.{sheet-accepted}
+use Rattle.sheet.proofs.SheetBytes.{sheet-is-bytes}
 use Rattle.sheet.proofs.Place.{refusal-number, refusal-place}
 use Rattle.sheet.proofs.Answers.{machines-in, moves-in, modes-in, live-in, machine-in, from-in, to-in, command-in}
 use Rattle.sheet.proofs.Answers.{guard-count-in, guard-machine-in, guard-mask-in}
 
 pub accepted-valid : AcceptedValid
 accepted-valid s d q = (parse-valid s q, parse-has-machine s q)
+
+pub valid-accepted : ValidAccepted
+valid-accepted m ok some =
+    let r = sheet-accepted m ok some in
+    record { parsed = r .0; accepted = r .1; same = r .2; bytes = sheet-is-bytes m ok }
 
 pub refused-listed : RefusedListed
 refused-listed s n p q = (refusal-number s q .0, refusal-number s q .1, refusal-place s q)

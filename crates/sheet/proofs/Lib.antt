@@ -1,7 +1,9 @@
+pub mod Accepted
 pub mod Answers
 pub mod Arrays
 pub mod BadGuards
 pub mod BadMoves
+pub mod Bodies
 pub mod Bytes
 pub mod Counts
 pub mod Fits
@@ -12,10 +14,14 @@ pub mod Keys
 pub mod Modes
 pub mod Order
 pub mod Parsed
+pub mod Passes
 pub mod Place
 pub mod Records
 pub mod Scanning
+pub mod Series
+pub mod SheetBytes
 pub mod Steps
 pub mod Stops
 pub mod Turns
 pub mod Valid
+pub mod Written

@@ -60,14 +60,15 @@ module _ (m : Model) (a b : ℕ) where
 abbrev Told : ℕ → Move → ℕ → Move → Type 0
 Told v y w z = y .machine ≡ z .machine → y .from ≡ z .from → y .command ≡ z .command → v ≡ w
 
--- one more move
-module _ (m : Model) (x : Move) where
-  pub same-guard : {v : Move} {g : Guard} → ValidGuard m v g → ValidGuard (withMove m x) v g
-  unfolding withMove
+-- the same machines with other moves: a valid move stays so
+abbrev pub withMoves : Model → List Move → Model
+withMoves m moves = record { modes = m .modes; live = m .live; moves = moves }
+
+module _ (m : Model) (moves : List Move) where
+  pub same-guard : {v : Move} {g : Guard} → ValidGuard m v g → ValidGuard (withMoves m moves) v g
   same-guard k = record { present = k .present; foreign = k .foreign; nonempty = k .nonempty; within = k .within }
 
-  pub same-move : {v : Move} → ValidMove m v → ValidMove (withMove m x) v
-  unfolding withMove
+  pub same-move : {v : Move} → ValidMove m v → ValidMove (withMoves m moves) v
   same-move k =
       record {
         present = k .present;
@@ -82,6 +83,8 @@ module _ (m : Model) (x : Move) where
         guards-rise = k .guards-rise;
       }
 
+-- one more move
+module _ (m : Model) (x : Move) where
   pub not-earlier : any (sameMove x) (m .moves) ≡ false → (v : ℕ) → v < moveCount m → x .machine ≡ moveAt m v .machine
       → x .from ≡ moveAt m v .from → x .command ≡ moveAt m v .command → ⊥
   unfolding sameMove
@@ -101,7 +104,7 @@ module _ (m : Model) (x : Move) where
         machines-valid = ok .machines-valid;
         moves-valid =
             snoc-each (m .moves) x noMove (λ i v. ValidMove (withMove m x) v)
-            (λ i h. same-move (ok .moves-valid i h)) (same-move fits);
+            (λ i h. same-move m _ (ok .moves-valid i h)) (same-move m _ fits);
         moves-distinct = λ v w h k.
             snoc-each (m .moves) x noMove (λ v y. Told v y w (moveAt (withMove m x) w))
             (λ v h. snoc-each (m .moves) x noMove (Told v (moveAt m v))

@@ -8,3 +8,4 @@ pub mod Record
 pub mod Refusal
 pub mod Scan
 pub mod Valid
+pub mod Write

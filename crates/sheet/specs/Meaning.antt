@@ -4,14 +4,27 @@ use mathlib.Core.Path.{_≡_}
 use mathlib.Core.List.{List}
 use lib.ListN.{length, getD}
 use Rattle.common.specs.Reply.{given, refused}
-use Rattle.sheet.specs.Model.{machineCount, modeCount, moveCount, moveAt, guardAt}
+use Rattle.sheet.specs.Record.{byte}
+use Rattle.sheet.specs.Model.{Model, machineCount, modeCount, moveCount, moveAt, guardAt}
 use Rattle.sheet.specs.Valid.{Valid}
 use Rattle.sheet.specs.Parse.{Parsed, parse}
+use Rattle.sheet.specs.Write.{sheetBytes}
 use Rattle.sheet.specs.Index.{indexOf, modesIn, liveIn, moveByte, guardCountIn}
 
 -- A sheet that passes 1 to 8 is valid, and has a machine.
 abbrev pub AcceptedValid : Type 0
 AcceptedValid = (s : List ℕ) (d : Parsed) → parse s ≡ given d → Valid (d .model) × (0 < machineCount (d .model))
+
+-- Nothing that is right is refused: the sheet of a valid model that has a machine passes, and is read as that model.
+-- That sheet is a file of bytes where the commands are bytes; the model's other numbers are.
+pub record ReadBack (m : Model) : Type 0 where
+  pub parsed : Parsed
+  pub accepted : parse (sheetBytes m) ≡ given parsed
+  pub same : parsed .model ≡ m
+  pub bytes : ((v : ℕ) → v < moveCount m → moveAt m v .command < 256) → (i : ℕ) → byte (sheetBytes m) i < 256
+
+abbrev pub ValidAccepted : Type 0
+ValidAccepted = (m : Model) → Valid m → 0 < machineCount m → ReadBack m
 
 -- A refusal has one of the numbers 1 to 8, and a place in the file or just behind it.
 abbrev pub RefusedListed : Type 0

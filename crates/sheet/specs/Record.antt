@@ -1,7 +1,7 @@
 -- "The sheet": a record is a two-byte body length, a two-byte kind, then the body, the numbers little-endian.
--- Nothing here knows the kinds: sheets and plans are both read so.
-use Prim.Native.Nat.{ℕ, _+_, _-_, _*_}
-use mathlib.Core.List.{List, []}
+-- Nothing here knows the kinds: sheets and plans are both read and written so.
+use Prim.Native.Nat.{ℕ, _+_, _-_, _*_, _/_, _%_}
+use mathlib.Core.List.{List, [], _∷_, _++_}
 use mathlib.Core.Bool.{cond}
 use lib.ListN.{length, getD, take, drop}
 use lib.Dec.{ltb, leb}
@@ -35,3 +35,11 @@ bodyOf s Cut = []
 -- the body of the record that begins at a place, as that part of the file; empty where no whole record begins there
 unfoldable pub bodyAt : List ℕ → ℕ → List ℕ
 bodyAt s at = bodyOf s (recordAt s at)
+
+-- Records as they are written: two bytes, little-endian
+unfoldable pub twoBytes : ℕ → List ℕ
+twoBytes n = n % 256 ∷ n / 256 % 256 ∷ []
+
+-- a record: body length, kind, body
+unfoldable pub recordOf : ℕ → List ℕ → List ℕ
+recordOf kind body = twoBytes (length body) ++ twoBytes kind ++ body

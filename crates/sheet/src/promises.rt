@@ -1,9 +1,14 @@
 // What reading a sheet promises, as theorems. A function here does nothing: its contract is the theorem.
-ghost use Rattle.sheet.specs.Meaning.{AcceptedValid, IndexAnswers, RefusedListed};
+ghost use Rattle.sheet.specs.Meaning.{AcceptedValid, IndexAnswers, RefusedListed, ValidAccepted};
 
 // A sheet that passes 1 to 8 is valid, and has a machine.
 pub fn accepted_is_valid()
     ensures { λ _. ⌜ AcceptedValid ⌝ }
+{}
+
+// Nothing that is right is refused: the sheet of a valid model that has a machine passes, and is read as that model.
+pub fn valid_is_accepted()
+    ensures { λ _. ⌜ ValidAccepted ⌝ }
 {}
 
 // A refusal has one of the numbers 1 to 8, and a place in the file or just behind it.

@@ -1,0 +1,169 @@
+-- The sheet of a valid model is accepted, and read as that model: its machines pass one by one, then its moves, and
+-- then the end.
+-- Assumes nothing.
+use Prim.Native.Nat.{ℕ, _+_, _-_, _≤_, _<_}
+use mathlib.Core.Path.{_≡_, refl, sym, ap, ap₂, subst, _∙_}
+use mathlib.Core.List.{List, [], _++_, flatMap}
+use mathlib.Core.Bool.{Bool, true, false, _&&_}
+use native.Mathlib.Omega.{arith}
+use borrow.Author.Tests.{eqb-true}
+use lib.Dec.{eqb}
+use lib.ListN.{length, getD, take, length-append}
+use lib.Seq.{length-take-le, take-length, take-all, take-suc, getD-take}
+use Rattle.common.specs.Lists.{upTo, any}
+use Rattle.common.specs.Reply.{given}
+use Rattle.common.proofs.Bools.{false-of-not-true, and-left, and-right}
+use Rattle.common.proofs.Lists.{any-fails}
+use Rattle.common.proofs.Members.{mem-index}
+use Rattle.common.proofs.Places.{Stands, stands-whole, stands-moved, stands-left, stands-right}
+use Rattle.sheet.specs.Record.{recordOf}
+use Rattle.sheet.specs.Model.{Move, Model, noMove, machineCount, moveCount, modeCount, moveAt}
+use Rattle.sheet.specs.Model.{withMachine, withMove}
+use Rattle.sheet.specs.Faults.{sameMove, faultsOf}
+use Rattle.sheet.specs.Valid.{Valid}
+use Rattle.sheet.specs.Parse.{Parsed, extended, parse}
+use Rattle.sheet.specs.Write.{machineBody, moveBody, sheetBytes}
+use Rattle.sheet.proofs.Fits.{MovePasses}
+use Rattle.sheet.proofs.Valid.{withMoves, same-move}
+use Rattle.sheet.proofs.Passes.{machine-clear, move-clear, end-clear}
+use Rattle.sheet.proofs.Bodies.{length-machineBody, length-moveBody, move-back}
+use Rattle.sheet.proofs.Written.{length-recordOf}
+use Rattle.sheet.proofs.Series.{Comes, comes-first, comes-to-end, Series, comes-through}
+
+pub same-fields : (v w : Move) → sameMove v w ≡ true
+    → (v .machine ≡ w .machine) × (v .from ≡ w .from) × (v .command ≡ w .command)
+unfolding sameMove
+same-fields v w t =
+    let a : Bool = eqb (v .machine) (w .machine) in
+    let b : Bool = eqb (v .from) (w .from) in
+    let both : a && b ≡ true = and-left _ _ t in
+    (eqb-true _ _ (and-left a b both), eqb-true _ _ (and-right a b both), eqb-true _ _ (and-right (a && b) _ t))
+
+module _ (m : Model) where
+  -- what is read before machine k, and before move k
+  abbrev pub firstMachines : ℕ → Model
+  firstMachines k = record { modes = take k (m .modes); live = take k (m .live); moves = [] }
+
+  abbrev pub firstMoves : ℕ → Model
+  firstMoves k = withMoves m (take k (m .moves))
+
+  abbrev machineRecords : List ℕ
+  machineRecords = flatMap (λ i. recordOf 1 (machineBody m i)) (upTo (machineCount m))
+
+  abbrev moveRecords : List ℕ
+  moveRecords = flatMap (λ v. recordOf 2 (moveBody (moveAt m v))) (upTo (moveCount m))
+
+  module _ (ok : Valid m) where
+    pub machine-series : Series 1 (machineCount m) (machineBody m) firstMachines
+    unfolding faultsOf extended withMachine machineBody
+    machine-series =
+        let live = ok .same-length in
+        record {
+          short = λ k h. omega (arith, length-machineBody m k);
+          clear = λ k at h.
+              machine-clear (firstMachines k) at (machineBody m k)
+              (record {
+                two-bytes = length-machineBody m k;
+                no-move-yet = refl;
+                room = omega (arith, ok .few-machines, length-take-le k (m .modes) (omega arith));
+                valid = ok .machines-valid k h;
+              });
+          leads = λ k d start h e.
+              ap (λ x. withMachine x (modeCount m k) (getD (m .live) k 0)) e
+              ∙ ap₂ (λ xs ys. record { modes = xs; live = ys; moves = [] })
+              (sym (take-suc (m .modes) k 0 h)) (sym (take-suc (m .live) k 0 (omega arith)));
+        }
+
+    -- no earlier move has the same machine, from mode and command
+    pub not-before : (k : ℕ) → k < moveCount m → any (sameMove (moveAt m k)) (take k (m .moves)) ≡ false
+    not-before k h =
+        any-fails (sameMove (moveAt m k)) (take k (m .moves))
+        (λ w i.
+        let j = mem-index noMove i in
+        let few = length-take-le k (m .moves) (omega arith) in
+        let early : j .0 < k = omega arith in
+        let e : moveAt m (j .0) ≡ w = sym (getD-take k (m .moves) (j .0) noMove early) ∙ j .2 in
+        false-of-not-true
+        (λ t.
+        let f = same-fields (moveAt m k) (moveAt m (j .0)) (rw e t) in
+        omega (arith, ok .moves-distinct k (j .0) h (omega arith) (f .0) (f .1) (f .2))))
+
+    pub move-fine : (k : ℕ) → k < moveCount m → MovePasses (firstMoves k) (moveBody (moveAt m k))
+    move-fine k h =
+        let v = ok .moves-valid k h in
+        let few = v .few-guards in
+        let e = length-moveBody (moveAt m k) in
+        record {
+          long = omega arith;
+          short = omega arith;
+          even = omega arith;
+          has-machine = omega (arith, v .present);
+          room = omega (arith, ok .few-moves, length-take-le k (m .moves) (omega arith));
+          valid = rw move-back (same-move m _ v);
+          new = rw move-back (not-before k h);
+        }
+
+    pub move-series : Series 2 (moveCount m) (λ v. moveBody (moveAt m v)) firstMoves
+    unfolding faultsOf extended withMove
+    move-series =
+        record {
+          short = λ k h. omega (arith, move-fine k h .short);
+          clear = λ k at h.
+              move-clear (firstMoves k) at (moveBody (moveAt m k))
+              (λ i p. ok .machines-valid i p .has-mode) (move-fine k h);
+          leads = λ k d start h e.
+              ap₂ withMove e (move-back (moveAt m k)) ∙ ap (withMoves m) (sym (take-suc (m .moves) k noMove h));
+        }
+
+    written : Stands (sheetBytes m) 0 (machineRecords ++ moveRecords ++ recordOf 3 [])
+    unfolding sheetBytes
+    written = stands-whole _
+
+    front : Stands (sheetBytes m) 0 (machineRecords ++ moveRecords)
+    front = stands-left _ (recordOf 3 []) written
+
+    all-machines : firstMachines (machineCount m) ≡ firstMoves 0
+    all-machines =
+        ap₂ (λ xs ys. record { modes = xs; live = ys; moves = [] })
+        (take-length (m .modes)) (take-all (machineCount m) (m .live) (omega (arith, ok .same-length)))
+
+    -- where the moves begin, and where the end record does
+    abbrev movesAt : ℕ
+    movesAt = 0 + length machineRecords
+
+    abbrev endAt : ℕ
+    endAt = movesAt + length moveRecords
+
+    through-machines : Comes (sheetBytes m) (283 - machineCount m) movesAt (firstMoves 0)
+    through-machines =
+        subst (Comes (sheetBytes m) (283 - machineCount m) movesAt) all-machines
+        (comes-through machine-series (omega arith) (λ e. omega arith) (stands-left machineRecords moveRecords front)
+        (omega (arith, ok .few-machines)) (comes-first (sheetBytes m)) (machineCount m) (omega arith))
+
+    through-moves : Comes (sheetBytes m) (283 - machineCount m - moveCount m) endAt m
+    through-moves =
+        subst (Comes (sheetBytes m) (283 - machineCount m - moveCount m) endAt)
+        (ap (withMoves m) (take-length (m .moves)))
+        (comes-through move-series (omega arith) (λ e. omega arith) (stands-right machineRecords moveRecords front)
+        (omega (arith, ok .few-machines, ok .few-moves)) through-machines (moveCount m) (omega arith))
+
+    end-stands : Stands (sheetBytes m) endAt (recordOf 3 [])
+    end-stands =
+        stands-moved (stands-right (machineRecords ++ moveRecords) (recordOf 3 []) written)
+        (omega (arith, length-append machineRecords moveRecords))
+
+    end-last : length (sheetBytes m) ≤ endAt + 4
+    unfolding sheetBytes
+    end-last =
+        omega (
+          arith,
+          length-append (machineRecords ++ moveRecords) (recordOf 3 []),
+          length-append machineRecords moveRecords,
+          length-recordOf 3 [],
+        )
+
+    pub sheet-accepted : 0 < machineCount m → (d : Parsed) × (parse (sheetBytes m) ≡ given d) × (d .model ≡ m)
+    unfolding faultsOf
+    sheet-accepted some =
+        comes-to-end through-moves (omega (arith, ok .few-machines, ok .few-moves)) end-stands end-last
+        (end-clear m _ [] refl some)
