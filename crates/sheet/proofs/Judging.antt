@@ -1,16 +1,21 @@
 -- Judging by the arrays is judging by the model that they hold.
 -- Assumes nothing.
 use Prim.Native.Nat.{ℕ, _≤_, _<_}
-use mathlib.Core.Path.{_≡_, sym, _∙_}
-use mathlib.Core.Bool.{Bool, true, false}
+use mathlib.Core.Path.{_≡_, refl, sym, ap, subst, _∙_}
+use mathlib.Core.Bool.{Bool, true, false, not, _||_}
+use mathlib.Core.Logic.{inl, inr}
 use mathlib.Core.List.{List, [], _∷_}
 use native.Mathlib.Omega.{arith}
-use borrow.Author.Tests.{leb-false, ltb-false, lt-ltb, le-ltb, le-leb, lt-leb, eq-eqb, ne-eqb}
-use lib.Dec.{eqb, ltb}
+use borrow.Author.Tests.{not-true, leb-false, ltb-false, lt-ltb, le-ltb, le-leb, lt-leb, eq-eqb, ne-eqb}
+use mir.Val.{hasKey}
+use types.Run.{OneOf, hit}
+use lib.Dec.{T, eqb, ltb}
 use lib.ListN.{length, take}
-use Rattle.common.specs.Lists.{any}
+use Rattle.common.specs.Lists.{all, any, upTo}
 use Rattle.common.specs.Reply.{refused, fault, unless}
-use Rattle.common.proofs.Bools.{or-false-left, or-false-right}
+use Rattle.common.proofs.Bools.{true-of-not-false, and-left, and-right, or-false-left, or-false-right}
+use Rattle.common.proofs.Lists.{all-at}
+use Rattle.common.proofs.Members.{upTo-mem}
 use Rattle.common.proofs.Pad.{getD-pad}
 use Rattle.sheet.specs.Record.{byte}
 use Rattle.sheet.specs.Model.{Model, machineCount, moveCount, modeCount, moveOf}
@@ -58,6 +63,29 @@ unfolding wrongMoveLength
 move-long n e f =
     let q = or-false-left _ _ (sym e ∙ f) in
     (ltb-false _ _ (or-false-left _ _ q), ltb-false _ _ (or-false-right (ltb n 4) _ q))
+
+-- the lengths that a move's body may have: 4, and those above
+abbrev Above : List ℕ
+Above = 6 ∷ 8 ∷ 10 ∷ 12 ∷ 14 ∷ 16 ∷ 18 ∷ 20 ∷ []
+
+one-holds : (p : ℕ → Bool) (k : ℕ) (ks : List ℕ) {n : ℕ} → all p (k ∷ ks) ≡ true → OneOf (k ∷ ks) n → p n ≡ true
+unfolding all
+one-holds p k [] a e = ap p e ∙ and-left (p k) _ a
+one-holds p k (j ∷ ks) a (inl e) = ap p e ∙ and-left (p k) _ a
+one-holds p k (j ∷ ks) a (inr h) = one-holds p j ks (and-right (p k) _ a) h
+
+pub length-right : (n : ℕ) → OneOf (4 ∷ Above) n → false ≡ wrongMoveLength n
+unfolding all wrongMoveLength
+length-right n h = sym (not-true _ (one-holds (λ k. not (wrongMoveLength k)) 4 Above {n = n} refl h))
+
+pub length-wrong : (n : ℕ) → (OneOf (4 ∷ Above) n → ⊥) → true ≡ wrongMoveLength n
+unfolding all upTo wrongMoveLength
+length-wrong n h =
+    sym (true-of-not-false (λ f.
+    let k = move-long n refl f in
+    let short : n < 21 = omega arith in
+    let table = all-at (λ j. wrongMoveLength j || hasKey (4 ∷ Above) j) {x = n} {xs = upTo 21} refl (upTo-mem short) in
+    h (hit (4 ∷ Above) n (subst T (sym (rw f at table)) tt))))
 
 -- what is found in a machine record, test by test
 module _ (m : Model) (at : ℕ) {machines moves : ℕ} (body : List ℕ) (e : machineCount m ≡ machines)

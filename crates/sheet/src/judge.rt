@@ -28,13 +28,10 @@ pub enum Judged {
 pub fn wrong_move_length(n: usize) -> bool
     ensures { λ r. ⌜ r ≡ wrongMoveLength n ⌝ }
 {
-    if n < 4 {
-        return true;
+    match n {
+        4 | 6 | 8 | 10 | 12 | 14 | 16 | 18 | 20 => false,
+        _ => true,
     }
-    if 20 < n {
-        return true;
-    }
-    n % 2 == 1
 }
 
 // 5.
