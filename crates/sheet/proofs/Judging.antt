@@ -1,41 +1,36 @@
 -- Judging by the arrays is judging by the model that they hold.
 -- Assumes nothing.
 use Prim.Native.Nat.{ℕ, _≤_, _<_}
-use mathlib.Core.Path.{_≡_, sym, _∙_}
-use mathlib.Core.Bool.{Bool, true, false}
+use mathlib.Core.Path.{_≡_, refl, sym, ap, subst, _∙_}
+use mathlib.Core.Bool.{Bool, true, false, not, _||_}
+use mathlib.Core.Logic.{inl, inr}
 use mathlib.Core.List.{List, [], _∷_}
 use native.Mathlib.Omega.{arith}
-use borrow.Author.Tests.{leb-false, ltb-false, lt-ltb, le-ltb, le-leb, lt-leb, eq-eqb, ne-eqb}
-use lib.Dec.{eqb, ltb}
+use borrow.Author.Tests.{not-true, leb-false, ltb-false, lt-ltb, le-ltb, le-leb, lt-leb, eq-eqb, ne-eqb}
+use mir.Val.{hasKey}
+use types.Run.{OneOf, hit}
+use lib.Dec.{T, eqb, ltb}
 use lib.ListN.{length, take}
-use Rattle.common.specs.Lists.{any, upTo, pad}
+use Rattle.common.specs.Lists.{all, any, upTo}
 use Rattle.common.specs.Reply.{refused, fault, unless}
-use Rattle.common.proofs.Bools.{or-false-left, or-false-right}
-use Rattle.common.proofs.Lists.{any-cong}
+use Rattle.common.proofs.Bools.{true-of-not-false, and-left, and-right, or-false-left, or-false-right}
+use Rattle.common.proofs.Lists.{all-at}
+use Rattle.common.proofs.Members.{upTo-mem}
 use Rattle.common.proofs.Pad.{getD-pad}
 use Rattle.sheet.specs.Record.{byte}
-use Rattle.sheet.specs.Model.{Move, Model, machineCount, moveCount, modeCount, guardAt, moveOf}
-use Rattle.sheet.specs.Faults.{wrongMoveLength, badMachine, badMove, badGuard, badGuards, badCommand}
+use Rattle.sheet.specs.Model.{Model, machineCount, moveCount, modeCount, moveOf}
+use Rattle.sheet.specs.Faults.{wrongMoveLength, badMachine, badMove, badGuards, badCommand}
 use Rattle.sheet.specs.Faults.{machineFaults, moveFaults}
-use Rattle.sheet.specs.Held.{keyOf, fine, Small, Held}
+use Rattle.sheet.specs.Held.{fine, deadMove, wrongGuards, keyOf, Small, Below, Held}
 use Rattle.sheet.specs.Valid.{ValidMove}
 use Rattle.sheet.proofs.Fits.{has-modes}
-use Rattle.sheet.proofs.Keys.{key-repeats}
-
--- zeros behind the modes change nothing
-pub pad-bad-move : (modes live : List ℕ) (v : Move) → badMove (pad 32 modes) (pad 32 live) v ≡ badMove modes live v
-unfolding badMove
-pad-bad-move modes live v = rw (getD-pad 32 modes (v .machine), getD-pad 32 live (v .machine))
-
-pub pad-bad-guards : (modes : List ℕ) (v : Move) → badGuards (pad 32 modes) v ≡ badGuards modes v
-unfolding badGuards badGuard
-pad-bad-guards modes v =
-    any-cong (badGuard (pad 32 modes) v) (badGuard modes v) (upTo (length (v .guards)))
-    (λ n _. rw (getD-pad 32 modes (guardAt v n .machine)))
+use Rattle.sheet.proofs.Keys.{held-below, key-repeats}
+use Rattle.sheet.proofs.BadMoves.{bad-move-dead}
+use Rattle.sheet.proofs.BadGuards.{guards-by-tops}
 
 -- a move that passes 6 has small numbers
-pub small-move : (m : Model) {machines moves : ℕ} {modes live keys : List ℕ} (body : List ℕ)
-    → Held m machines moves modes live keys → byte body 0 < machineCount m → byte body 1 < modeCount m (byte body 0)
+pub small-move : (m : Model) {machines moves : ℕ} {tops live keys highest : List ℕ} (body : List ℕ)
+    → Held m machines moves tops live keys highest → byte body 0 < machineCount m → byte body 1 < modeCount m (byte body 0)
     → byte body 3 < 256 → Small (moveOf body)
 unfolding moveOf
 small-move m body h present from last =
@@ -45,13 +40,13 @@ small-move m body h present from last =
       command = last;
     }
 
-pub valid-small : (m : Model) {machines moves : ℕ} {modes live keys : List ℕ} (body : List ℕ)
-    → Held m machines moves modes live keys → ValidMove m (moveOf body) → byte body 3 < 256 → Small (moveOf body)
+pub valid-small : (m : Model) {machines moves : ℕ} {tops live keys highest : List ℕ} (body : List ℕ)
+    → Held m machines moves tops live keys highest → ValidMove m (moveOf body) → byte body 3 < 256 → Small (moveOf body)
 unfolding moveOf
 valid-small m body h v last = small-move m body h (v .present) (v .from-present) last
 
-passed-small : (m : Model) {machines moves : ℕ} {modes live keys : List ℕ} (body : List ℕ)
-    → Held m machines moves modes live keys → badMove (m .modes) (m .live) (moveOf body) ≡ false → byte body 3 < 256
+passed-small : (m : Model) {machines moves : ℕ} {tops live keys highest : List ℕ} (body : List ℕ)
+    → Held m machines moves tops live keys highest → badMove (m .modes) (m .live) (moveOf body) ≡ false → byte body 3 < 256
     → Small (moveOf body)
 unfolding badMove moveOf
 passed-small m body h f last =
@@ -68,6 +63,29 @@ unfolding wrongMoveLength
 move-long n e f =
     let q = or-false-left _ _ (sym e ∙ f) in
     (ltb-false _ _ (or-false-left _ _ q), ltb-false _ _ (or-false-right (ltb n 4) _ q))
+
+-- the lengths that a move's body may have: 4, and those above
+abbrev Above : List ℕ
+Above = 6 ∷ 8 ∷ 10 ∷ 12 ∷ 14 ∷ 16 ∷ 18 ∷ 20 ∷ []
+
+one-holds : (p : ℕ → Bool) (k : ℕ) (ks : List ℕ) {n : ℕ} → all p (k ∷ ks) ≡ true → OneOf (k ∷ ks) n → p n ≡ true
+unfolding all
+one-holds p k [] a e = ap p e ∙ and-left (p k) _ a
+one-holds p k (j ∷ ks) a (inl e) = ap p e ∙ and-left (p k) _ a
+one-holds p k (j ∷ ks) a (inr h) = one-holds p j ks (and-right (p k) _ a) h
+
+pub length-right : (n : ℕ) → OneOf (4 ∷ Above) n → false ≡ wrongMoveLength n
+unfolding all wrongMoveLength
+length-right n h = sym (not-true _ (one-holds (λ k. not (wrongMoveLength k)) 4 Above {n = n} refl h))
+
+pub length-wrong : (n : ℕ) → (OneOf (4 ∷ Above) n → ⊥) → true ≡ wrongMoveLength n
+unfolding all upTo wrongMoveLength
+length-wrong n h =
+    sym (true-of-not-false (λ f.
+    let k = move-long n refl f in
+    let short : n < 21 = omega arith in
+    let table = all-at (λ j. wrongMoveLength j || hasKey (4 ∷ Above) j) {x = n} {xs = upTo 21} refl (upTo-mem short) in
+    h (hit (4 ∷ Above) n (subst T (sym (rw f at table)) tt))))
 
 -- what is found in a machine record, test by test
 module _ (m : Model) (at : ℕ) {machines moves : ℕ} (body : List ℕ) (e : machineCount m ≡ machines)
@@ -95,41 +113,41 @@ module _ (m : Model) (at : ℕ) {machines moves : ℕ} (body : List ℕ) (e : ma
     unfolding unless machineFaults
     machine-fine t = rw (eq-eqb _ _ h, f, le-ltb _ _ g, e, lt-leb _ _ k, ← b, t)
 
--- what is found in a move record, test by test: 8 by the keys
-module _ (m : Model) (at : ℕ) {machines moves : ℕ} {modes live keys : List ℕ} (body : List ℕ)
-    (h : Held m machines moves modes live keys) {a : Bool} (ea : a ≡ wrongMoveLength (length body)) where
-  held-move : badMove (m .modes) (m .live) (moveOf body) ≡ badMove modes live (moveOf body)
-  held-move = rw (h .modes-in, h .live-in) (sym (pad-bad-move _ _ _))
+-- what is found in a move record, test by test: 2
+pub move-length : (m : Model) (at : ℕ) (body : List ℕ) {a : Bool} → a ≡ wrongMoveLength (length body) → a ≡ true
+    → refused 2 at ≡ unless (moveFaults m at body) fine
+unfolding unless moveFaults
+move-length m at body e t = rw (← e, t)
 
-  held-guards : badGuards (m .modes) (moveOf body) ≡ badGuards modes (moveOf body)
-  held-guards = rw (h .modes-in) (sym (pad-bad-guards _ _))
+-- and by what is held: 4, 6, 7 and 8
+module _ (m : Model) (at : ℕ) {machines moves : ℕ} {tops live keys highest : List ℕ} (body : List ℕ)
+    (h : Held m machines moves tops live keys highest) (t : wrongMoveLength (length body) ≡ false) where
+  held-move : badMove (m .modes) (m .live) (moveOf body) ≡ deadMove live (moveOf body)
+  unfolding deadMove
+  held-move = bad-move-dead _ _ _ (h .live-within _) ∙ rw (h .live-in, getD-pad)
 
-  pub move-length : a ≡ true → refused 2 at ≡ unless (moveFaults m at body) fine
+  held-guards : badGuards (m .modes) (moveOf body) ≡ wrongGuards tops (moveOf body)
+  held-guards = rw (h .tops-in) (sym (guards-by-tops _ _))
+
+  pub move-early : machines ≡ 0 → refused 4 at ≡ unless (moveFaults m at body) fine
   unfolding unless moveFaults
-  move-length t = rw (← ea, t)
+  move-early z = rw (t, h .machines-are, eq-eqb _ _ z)
 
-  pub move-early : a ≡ false → machines ≡ 0 → refused 4 at ≡ unless (moveFaults m at body) fine
+  pub move-many : (machines ≡ 0 → ⊥) → 250 ≤ moves → refused 4 at ≡ unless (moveFaults m at body) fine
   unfolding unless moveFaults
-  move-early t z = rw (← ea, t, h .machines-are, eq-eqb _ _ z)
+  move-many z k = rw (t, h .machines-are, ne-eqb _ _ z, h .moves-are, le-leb _ _ k)
 
-  pub move-many : a ≡ false → (machines ≡ 0 → ⊥) → 250 ≤ moves
-      → refused 4 at ≡ unless (moveFaults m at body) fine
-  unfolding unless moveFaults
-  move-many t z k = rw (← ea, t, h .machines-are, ne-eqb _ _ z, h .moves-are, le-leb _ _ k)
-
-  module _ {b : Bool} (t : a ≡ false) (z : machines ≡ 0 → ⊥) (k : moves < 250)
-      (eb : b ≡ badMove modes live (moveOf body)) where
+  module _ {b : Bool} (z : machines ≡ 0 → ⊥) (k : moves < 250) (eb : b ≡ deadMove live (moveOf body)) where
     pub move-bad : b ≡ true → refused 6 at ≡ unless (moveFaults m at body) fine
     unfolding unless moveFaults
-    move-bad q = rw (← ea, t, h .machines-are, ne-eqb _ _ z, h .moves-are, lt-leb _ _ k, held-move, ← eb, q)
+    move-bad q = rw (t, h .machines-are, ne-eqb _ _ z, h .moves-are, lt-leb _ _ k, held-move, ← eb, q)
 
-    module _ {c : Bool} (q : b ≡ false) (ec : c ≡ badGuards modes (moveOf body)) where
+    module _ {c : Bool} (q : b ≡ false) (ec : c ≡ wrongGuards tops (moveOf body)) where
       early : unless (moveFaults m at body) fine
           ≡ unless (fault 7 at c ∷ fault 8 at (badCommand (m .moves) (moveOf body)) ∷ []) fine
       unfolding unless moveFaults
       early =
           rw (
-            ← ea,
             t,
             h .machines-are,
             ne-eqb _ _ z,
@@ -151,14 +169,14 @@ module _ (m : Model) (at : ℕ) {machines moves : ℕ} {modes live keys : List �
       move-silent w y = sym (early ∙ rw (w, eq-eqb _ _ y))
 
       module _ {key : ℕ} {d : Bool} (w : c ≡ false) (y : byte body 3 ≡ 0 → ⊥) (last : byte body 3 < 256)
-          (ek : key ≡ keyOf (moveOf body)) (ed : d ≡ any (eqb key) (take moves keys)) where
+          (ek : key ≡ keyOf (moveOf body))
+          (ed : Below highest (take moves keys) → d ≡ any (eqb key) (take moves keys)) where
         small : Small (moveOf body)
         small = passed-small m body h (held-move ∙ sym eb ∙ q) last
 
         late : unless (moveFaults m at body) fine ≡ unless (fault 8 at d ∷ []) fine
         unfolding unless badCommand
-        late =
-            early ∙ rw (w, commanded body y, ed, ek, key-repeats m (moveOf body) h small)
+        late = early ∙ rw (w, commanded body y, ed (held-below m h), ek, key-repeats m h (moveOf body) small)
 
         pub move-repeated : d ≡ true → refused 8 at ≡ unless (moveFaults m at body) fine
         unfolding unless

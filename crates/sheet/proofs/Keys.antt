@@ -1,23 +1,23 @@
 -- Keys: a key is among some keys, found by counting; a key tells a move.
 -- Assumes nothing.
-use Prim.Native.Nat.{ℕ, _+_, _*_, _≤_, _<_}
+use Prim.Native.Nat.{ℕ, _+_, _*_, _/_, _%_, _≤_, _<_}
 use mathlib.Core.Path.{_≡_, refl, sym, ap, _∙_}
 use mathlib.Core.Bool.{Bool, true, false, _||_, _&&_}
 use mathlib.Core.List.{List, [], _∷_, map}
 use native.Mathlib.Omega.{arith}
 use native.Mathlib.Numerals.{add-one}
 use native.Mathlib.Nat.{add-zero, mod-eq-of-lt}
-use borrow.Author.Tests.{lt-ltb, eqb-true, eq-eqb}
+use borrow.Author.Tests.{lt-ltb, eqb-true, eq-eqb, ne-eqb}
 use mir.Val.{boolByte}
 use lib.Dec.{eqb, ltb}
 use lib.ListN.{length, getD, take, length-map}
 use lib.Seq.{take-suc, take-at}
 use Rattle.common.specs.Lists.{any, pad}
 use Rattle.common.proofs.Bools.{by-cases, bool-ext, or-right, and-intro, and-left, and-right}
-use Rattle.common.proofs.Lists.{any-append, any-map, any-cong}
+use Rattle.common.proofs.Lists.{any-append, any-map, any-cong, any-fails}
 use Rattle.sheet.specs.Model.{Move, Model}
 use Rattle.sheet.specs.Faults.{sameMove}
-use Rattle.sheet.specs.Held.{keyOf, Small, Held}
+use Rattle.sheet.specs.Held.{keyOf, Small, Below, Held}
 
 or-nothing : (b : Bool) → (b || false) ≡ b
 or-nothing true = refl
@@ -48,6 +48,10 @@ pub bool-small : (b : Bool) → boolByte b ≤ 1
 bool-small true = omega arith
 bool-small false = omega arith
 
+pub key-fits : (v : Move) → keyOf v < 65536
+unfolding keyOf
+key-fits v = omega arith
+
 pub key-small : (v : Move) → Small v → keyOf v ≡ 2048 * v .machine + 256 * v .from + v .command
 unfolding keyOf
 key-small v a = mod-eq-of-lt (omega (arith, a .machine, a .from, a .command))
@@ -73,13 +77,28 @@ key-tells v w a b =
     omega arith in
     eq-eqb _ _ (key-small v a ∙ e ∙ sym (key-small w b)))
 
--- a key among those of the moves so far: the move stands there already
-pub key-repeats : (m : Model) {machines moves : ℕ} {modes live keys : List ℕ} (v : Move)
-    → Held m machines moves modes live keys → Small v
-    → any (eqb (keyOf v)) (take moves keys) ≡ any (sameMove v) (m .moves)
-unfolding pad
-key-repeats m {machines} {moves} {modes} {live} {keys} v h a =
-    ap (any (eqb (keyOf v)))
-    (ap (take moves) (h .keys-in) ∙ take-at (map keyOf (m .moves)) _ moves (length-map (m .moves) keyOf ∙ h .moves-are))
-    ∙ any-map (eqb (keyOf v)) keyOf (m .moves)
-    ∙ any-cong (λ w. eqb (keyOf v) (keyOf w)) (sameMove v) (m .moves) (λ w i. key-tells v w a (h .small-moves w i))
+-- a command above the highest of its machine and mode: the key is new
+pub key-above : (key : ℕ) (highest keys : List ℕ) {mode high command : ℕ} → mode ≡ key / 256
+    → high ≡ getD highest mode 0 → command ≡ key % 256 → high < command → Below highest keys → false ≡ any (eqb key) keys
+key-above key highest keys {mode} {high} e f g a h =
+    sym (any-fails (eqb key) keys (λ k i. ne-eqb key k (λ same.
+    let b : key % 256 ≤ high = rw (f, e, same) (h k i) in
+    omega arith)))
+
+module _ (m : Model) {machines moves : ℕ} {tops live keys highest : List ℕ}
+    (h : Held m machines moves tops live keys highest) where
+  -- the first keys are those of the moves so far
+  keys-are : take moves keys ≡ map keyOf (m .moves)
+  unfolding pad
+  keys-are =
+      ap (take moves) (h .keys-in) ∙ take-at (map keyOf (m .moves)) _ moves (length-map (m .moves) keyOf ∙ h .moves-are)
+
+  pub held-below : Below highest (take moves keys)
+  held-below = rw keys-are (h .keys-below)
+
+  -- a key among them: the move stands there already
+  pub key-repeats : (v : Move) → Small v → any (eqb (keyOf v)) (take moves keys) ≡ any (sameMove v) (m .moves)
+  key-repeats v a =
+      ap (any (eqb (keyOf v))) keys-are
+      ∙ any-map (eqb (keyOf v)) keyOf (m .moves)
+      ∙ any-cong (λ w. eqb (keyOf v) (keyOf w)) (sameMove v) (m .moves) (λ w i. key-tells v w a (h .small-moves w i))

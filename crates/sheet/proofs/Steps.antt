@@ -51,12 +51,13 @@ module _ (d : Parsed) (at next : ℕ) (body : List ℕ) {j : Judged} (long : nex
         fits = record {
           room = told .room;
           few = omega (arith, p, told .valid .few-modes);
+          within = rw (p, q) (told .valid .within);
           near = omega (arith, told .two-bytes);
         };
       }
 
-  pub step-move : {machines moves key : ℕ} {modes live keys : List ℕ} → Held (d .model) machines moves modes live keys
-      → judgedOf j at ≡ unless (moveFaults (d .model) at body) fine → j ≡ Fine → byte body 3 < 256
+  pub step-move : {machines moves key : ℕ} {tops live keys highest : List ℕ}
+      → Held (d .model) machines moves tops live keys highest → judgedOf j at ≡ unless (moveFaults (d .model) at body) fine → j ≡ Fine → byte body 3 < 256
       → key ≡ keyOf (moveOf body)
       → Stepped (unless (moveFaults (d .model) at body) (given (more next (moveRead d (at + 4) (moveOf body)))))
       d (moveOf body) at (NewMove (at + 4) key next)

@@ -1,7 +1,9 @@
 -- One step of reading a sheet, as the code takes it.
 use Prim.Native.Nat.{ℕ, _+_, _≤_, _<_}
 use mathlib.Core.Path.{_≡_}
+use mathlib.Core.Bool.{false}
 use mathlib.Core.List.{List, [], _∷_, _++_}
+use Rattle.common.specs.Bits.{beyond}
 use Rattle.common.specs.Reply.{Reply, given, refused}
 use Rattle.sheet.specs.declared.scan.Step.{Step}
 use Rattle.sheet.specs.declared.scan.Step.the-variants.{NewMachine, NewMove, End, Refused}
@@ -24,9 +26,10 @@ turnBy d v End = given (ended d)
 turnBy d v (Refused cause place) = refused (numberOf cause) place
 
 -- the arrays have room for a new machine or move, and the next record is not far
-pub record MachineFits (m : Model) (at modes next : ℕ) : Type 0 where
+pub record MachineFits (m : Model) (at modes live next : ℕ) : Type 0 where
   pub room : machineCount m < 32
   pub few : modes ≤ 8
+  pub within : beyond modes live ≡ false
   pub near : next ≤ at + 6
 
 pub record MoveFits (m : Model) (v : Move) (at start key next : ℕ) : Type 0 where
@@ -37,7 +40,7 @@ pub record MoveFits (m : Model) (v : Move) (at start key next : ℕ) : Type 0 wh
   pub near : next ≤ at + 24
 
 abbrev pub StepFits : Model → Move → ℕ → Step → Type 0
-StepFits m v at (NewMachine modes live next) = MachineFits m at modes next
+StepFits m v at (NewMachine modes live next) = MachineFits m at modes live next
 StepFits m v at (NewMove start key next) = MoveFits m v at start key next
 StepFits m v at End = Unit
 StepFits m v at (Refused cause place) = Unit

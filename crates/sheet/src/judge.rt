@@ -6,17 +6,17 @@ use crate::record::byte_at;
 use crate::record::wide;
 use crate::refusal::Cause;
 ghost use mathlib.Core.Path.{_≡_};
-ghost use Prim.Native.Nat.{ℕ, _+_, _*_, _-_, _/_, _≤_, _<_};
+ghost use Prim.Native.Nat.{ℕ, _+_, _*_, _-_, _/_, _%_, _≤_, _<_};
 ghost use lib.ListN.{length, take};
 ghost use lib.Dec.{eqb, ltb, leb};
-ghost use mathlib.Core.Bool.{_&&_};
+ghost use mathlib.Core.Bool.{false, _&&_};
 ghost use Rattle.common.specs.Lists.{any};
 ghost use Rattle.common.specs.Reply.{unless};
 ghost use Rattle.sheet.specs.Record.{byte};
 ghost use Rattle.sheet.specs.Model.{Model, machineCount, moveCount, moveOf};
-ghost use Rattle.sheet.specs.Faults.{wrongMoveLength, badMachine, badMove, badGuard, badGuards};
+ghost use Rattle.sheet.specs.Faults.{wrongMoveLength, badMachine};
 ghost use Rattle.sheet.specs.Faults.{machineFaults, moveFaults, endFaults};
-ghost use Rattle.sheet.specs.Held.{fine, judgedOf, keyOf, Held};
+ghost use Rattle.sheet.specs.Held.{fine, judgedOf, deadMove, wrongGuard, wrongGuards, keyOf, Below, Held};
 
 // What judging a record finds.
 pub enum Judged {
@@ -25,16 +25,13 @@ pub enum Judged {
 }
 
 // 2 for a move.
-fn wrong_move_length(n: usize) -> bool
+pub fn wrong_move_length(n: usize) -> bool
     ensures { λ r. ⌜ r ≡ wrongMoveLength n ⌝ }
 {
-    if n < 4 {
-        return true;
+    match n {
+        4 | 6 | 8 | 10 | 12 | 14 | 16 | 18 | 20 => false,
+        _ => true,
     }
-    if 20 < n {
-        return true;
-    }
-    n % 2 == 1
 }
 
 // 5.
@@ -53,25 +50,17 @@ fn bad_machine(modes: u8, live: u8) -> bool
     has_beyond(modes, live)
 }
 
-// 6.
-fn bad_move(body: &[u8], modes: &[u8], live: &[u8]) -> bool
+// 6, by the live modes: no machine has one past its modes.
+fn bad_move(body: &[u8], live: &[u8]) -> bool
     requires { ⌜ 4 ≤ length (now body) ⌝ }
-    ensures { λ r. ⌜ r ≡ badMove (now (modes .entry)) (now (live .entry)) (moveOf (now (body .entry))) ⌝ }
+    ensures { λ r. ⌜ r ≡ deadMove (now (live .entry)) (moveOf (now (body .entry))) ⌝ }
 {
-    let machine = wide(body[0]);
     let from = body[1];
     let to = body[2];
-    let count = byte_at(modes, machine);
-    if count <= from {
-        return true;
-    }
-    if count <= to {
-        return true;
-    }
     if from == to {
         return true;
     }
-    let lit = byte_at(live, machine);
+    let lit = byte_at(live, wide(body[0]));
     if has_mode(lit, from) {
         return !has_mode(lit, to);
     }
@@ -89,17 +78,14 @@ fn not_rising(body: &[u8], machine: u8, n: usize) -> bool
     false
 }
 
-// 7 for need n, of a body that has it.
-fn bad_guard(body: &[u8], modes: &[u8], n: usize) -> bool
+// 7 for need n, of a body that has it. An absent machine has the top 0.
+fn bad_guard(body: &[u8], tops: &[u8], n: usize) -> bool
     requires { ⌜ 2 * n + 5 < length (now body) ⌝ }
-    ensures { λ r. ⌜ r ≡ badGuard (now (modes .entry)) (moveOf (now (body .entry))) n ⌝ }
+    ensures { λ r. ⌜ r ≡ wrongGuard (now (tops .entry)) (moveOf (now (body .entry))) n ⌝ }
 {
     let machine = body[4 + 2 * n];
     let mask = body[5 + 2 * n];
-    let count = byte_at(modes, wide(machine));
-    if count == 0 {
-        return true;
-    }
+    let top = byte_at(tops, wide(machine));
     if machine == body[0] {
         return true;
     }
@@ -109,18 +95,18 @@ fn bad_guard(body: &[u8], modes: &[u8], n: usize) -> bool
     if mask == 0 {
         return true;
     }
-    has_beyond(count, mask)
+    top < mask
 }
 
 // 7.
-fn bad_guards(body: &[u8], modes: &[u8]) -> bool
+fn bad_guards(body: &[u8], tops: &[u8]) -> bool
     requires { ⌜ 4 ≤ length (now body) ⌝ }
-    ensures { λ r. ⌜ r ≡ badGuards (now (modes .entry)) (moveOf (now (body .entry))) ⌝ }
+    ensures { λ r. ⌜ r ≡ wrongGuards (now (tops .entry)) (moveOf (now (body .entry))) ⌝ }
 {
     let count = (body.len() - 4) / 2;
     let mut n: usize = 0;
     while n < count {
-        if bad_guard(body, modes, n) {
+        if bad_guard(body, tops, n) {
             return true;
         }
         n += 1;
@@ -130,16 +116,31 @@ fn bad_guards(body: &[u8], modes: &[u8]) -> bool
 
 // A move's machine, from mode and command as one number.
 pub fn key_of(body: &[u8]) -> u16
+    requires { ⌜ 4 ≤ length (now body) ⌝ }
     ensures { λ r. ⌜ r ≡ keyOf (moveOf (now (body .entry))) ⌝ }
 {
-    let machine = wide(byte_at(body, 0));
-    let from = wide(byte_at(body, 1));
-    let command = wide(byte_at(body, 3));
+    let machine = wide(body[0]);
+    let from = wide(body[1]);
+    let command = wide(body[3]);
     ((2048 * machine + 256 * from + command) % 65536) as u16
 }
 
+// The machine and from mode of a key.
+pub fn mode_of(key: u16) -> usize
+    ensures { λ r. ⌜ (r ≡ key / 256) × (r < 256) ⌝ }
+{
+    (key / 256) as usize
+}
+
+// The command of a key.
+pub fn command_of(key: u16) -> u8
+    ensures { λ r. ⌜ r ≡ key % 256 ⌝ }
+{
+    (key % 256) as u8
+}
+
 // Whether a key is among the first of some keys.
-fn repeated(keys: &[u16], moves: usize, key: u16) -> bool
+fn among(keys: &[u16], moves: usize, key: u16) -> bool
     requires { ⌜ (moves ≤ length (now keys)) × (moves ≤ 250) ⌝ }
     ensures { λ r. ⌜ r ≡ any (eqb key) (take moves (now (keys .entry))) ⌝ }
 {
@@ -150,6 +151,18 @@ fn repeated(keys: &[u16], moves: usize, key: u16) -> bool
         i += 1;
     }
     0 < hits
+}
+
+// The same, given the highest command of each machine and mode among them: a key with a higher one is new.
+fn repeated(keys: &[u16], highest: &[u8], moves: usize, key: u16) -> bool
+    requires { ⌜ (moves ≤ length (now keys)) × (moves ≤ 250) ⌝ }
+    ensures { λ r. ⌜ (Below (now (highest .entry)) (take moves (now (keys .entry)))
+        → r ≡ any (eqb key) (take moves (now (keys .entry)))) ⌝ }
+{
+    if byte_at(highest, mode_of(key)) < command_of(key) {
+        return false;
+    }
+    among(keys, moves, key)
 }
 
 // A machine record, after so many machines and moves.
@@ -172,39 +185,39 @@ pub fn judge_machine(body: &[u8], machines: usize, moves: usize) -> Judged
     Judged::Fine
 }
 
-// A move record, after the machines and moves that are held.
+// A move record of a right length, with its key, after the machines and moves that are held.
 pub fn judge_move(
     body: &[u8],
+    key: u16,
     machines: usize,
     moves: usize,
-    modes: &[u8],
+    tops: &[u8],
     live: &[u8],
     keys: &[u16],
+    highest: &[u8],
 ) -> Judged
-    requires { ⌜ length (now keys) ≡ 250 ⌝ }
+    requires { ⌜ (4 ≤ length (now body)) × (length (now keys) ≡ 250) ⌝ }
     ensures { λ r. ⌜ ((m : Model) (at : ℕ)
-        → Held m machines moves (now (modes .entry)) (now (live .entry)) (now (keys .entry))
+        → Held m machines moves (now (tops .entry)) (now (live .entry)) (now (keys .entry)) (now (highest .entry))
+        → wrongMoveLength (length (now (body .entry))) ≡ false → key ≡ keyOf (moveOf (now (body .entry)))
         → judgedOf r at ≡ unless (moveFaults m at (now (body .entry))) fine) ⌝ }
 {
-    if wrong_move_length(body.len()) {
-        return Judged::Faulty(Cause::WrongKind);
-    }
     if machines == 0 {
         return Judged::Faulty(Cause::Misplaced);
     }
     if Sheet::MOVES <= moves {
         return Judged::Faulty(Cause::Misplaced);
     }
-    if bad_move(body, modes, live) {
+    if bad_move(body, live) {
         return Judged::Faulty(Cause::BadMove);
     }
-    if bad_guards(body, modes) {
+    if bad_guards(body, tops) {
         return Judged::Faulty(Cause::BadGuard);
     }
     if body[3] == 0 {
         return Judged::Faulty(Cause::BadCommand);
     }
-    if repeated(keys, moves, key_of(body)) {
+    if repeated(keys, highest, moves, key) {
         return Judged::Faulty(Cause::BadCommand);
     }
     Judged::Fine

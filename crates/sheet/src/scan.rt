@@ -1,11 +1,15 @@
 // Reading a sheet front to back.
+use crate::bits::first_modes;
 use crate::index::Reading;
 use crate::index::Sheet;
 use crate::judge::Judged;
+use crate::judge::command_of;
 use crate::judge::judge_end;
 use crate::judge::judge_machine;
 use crate::judge::judge_move;
 use crate::judge::key_of;
+use crate::judge::mode_of;
+use crate::judge::wrong_move_length;
 use crate::record::Record;
 use crate::record::body;
 use crate::record::byte_at;
@@ -13,7 +17,7 @@ use crate::refusal::Cause;
 use crate::refusal::Verdict;
 ghost use mathlib.Core.Path.{_≡_};
 ghost use mathlib.Core.List.{[], _∷_};
-ghost use Prim.Native.Nat.{_+_, _<_};
+ghost use Prim.Native.Nat.{_+_, _≤_, _<_};
 ghost use lib.ListN.{length};
 ghost use lib.Dec.{ltb};
 ghost use Rattle.common.specs.Reply.{refused, given, unless, fault};
@@ -61,23 +65,28 @@ fn move_step(
     next: usize,
     machines: usize,
     moves: usize,
-    modes: &[u8],
+    tops: &[u8],
     live: &[u8],
     keys: &[u16],
+    highest: &[u8],
 ) -> Step
     requires { ⌜ (next ≡ at + 4 + length (now body)) × (length (now keys) ≡ 250) ⌝ }
     ensures { λ r. ⌜ ((d : Parsed)
-        → Held (d .model) machines moves (now (modes .entry)) (now (live .entry)) (now (keys .entry))
+        → Held (d .model) machines moves (now (tops .entry)) (now (live .entry)) (now (keys .entry)) (now (highest .entry))
         → Stepped (unless (moveFaults (d .model) at (now (body .entry)))
         (given (more next (moveRead d (at + 4) (moveOf (now (body .entry)))))))
         d (moveOf (now (body .entry))) at r) ⌝ }
 {
-    let j = judge_move(body, machines, moves, modes, live, keys);
+    if wrong_move_length(body.len()) {
+        return Step::Refused(Cause::WrongKind, at);
+    }
+    let key = key_of(body);
+    let j = judge_move(body, key, machines, moves, tops, live, keys, highest);
     match j {
         Judged::Faulty(cause) => Step::Refused(cause, at),
         Judged::Fine => Step::NewMove {
             start: at + 4,
-            key: key_of(body),
+            key,
             next,
         },
     }
@@ -108,13 +117,14 @@ fn record_step(
     at: usize,
     machines: usize,
     moves: usize,
-    modes: &[u8],
+    tops: &[u8],
     live: &[u8],
     keys: &[u16],
+    highest: &[u8],
 ) -> Step
     requires { ⌜ length (now keys) ≡ 250 ⌝ }
     ensures { λ r. ⌜ ((d : Parsed)
-        → Held (d .model) machines moves (now (modes .entry)) (now (live .entry)) (now (keys .entry))
+        → Held (d .model) machines moves (now (tops .entry)) (now (live .entry)) (now (keys .entry)) (now (highest .entry))
         → Stepped (turnOf (now (s .entry)) at d (recordAt (now (s .entry)) at))
         d (moveOf (bodyAt (now (s .entry)) at)) at r) ⌝ }
 {
@@ -125,10 +135,20 @@ fn record_step(
     let next = start + len;
     match kind {
         1 => machine_step(b, at, next, machines, moves),
-        2 => move_step(b, at, next, machines, moves, modes, live, keys),
+        2 => move_step(b, at, next, machines, moves, tops, live, keys, highest),
         3 => end_step(b, at, next, s.len(), machines),
         _ => Step::Refused(Cause::WrongKind, at),
     }
+}
+
+// The higher of two commands.
+fn higher(a: u8, b: u8) -> u8
+    ensures { λ r. ⌜ (a ≤ r) × (b ≤ r) ⌝ }
+{
+    if a < b {
+        return b;
+    }
+    a
 }
 
 // The reply to a faulty sheet.
@@ -147,16 +167,27 @@ pub fn read(s: &[u8]) -> Reading
     ensures index { λ r. ⌜ r .sheet ≡ sheetOf (parse (now (s .entry))) ⌝ }
 {
     let mut modes = [0u8; 32];
+    let mut tops = [0u8; 256];
     let mut live = [0u8; 32];
     let mut bodies = [0u16; 250];
     let mut keys = [0u16; 250];
+    let mut highest = [0u8; 256];
     let mut machines: usize = 0;
     let mut moves: usize = 0;
     let mut at: usize = 0;
     let mut left: usize = 283;
     while 0 < left {
         left -= 1;
-        let t = record_step(s, at, machines, moves, &modes[..], &live[..], &keys[..]);
+        let t = record_step(
+            s,
+            at,
+            machines,
+            moves,
+            &tops[..],
+            &live[..],
+            &keys[..],
+            &highest[..],
+        );
         match t {
             Step::NewMachine {
                 modes: count,
@@ -164,6 +195,7 @@ pub fn read(s: &[u8]) -> Reading
                 next,
             } => {
                 modes[machines] = count;
+                tops[machines] = first_modes(count);
                 live[machines] = lit;
                 machines += 1;
                 at = next;
@@ -171,6 +203,8 @@ pub fn read(s: &[u8]) -> Reading
             Step::NewMove { start, key, next } => {
                 bodies[moves] = start as u16;
                 keys[moves] = key;
+                let mode = mode_of(key);
+                highest[mode] = higher(highest[mode], command_of(key));
                 moves += 1;
                 at = next;
             }

@@ -1,6 +1,5 @@
+use Rattle.sheet.proofs.BadGuards.{wrong-guard-own, wrong-guard-falls, wrong-guard-empty, wrong-guard-rest}
 use borrow.Author.Needs.{needs}
-use Rattle.sheet.proofs.BadGuards.{bad-guard-absent, bad-guard-own, bad-guard-falls, bad-guard-empty}
-use Rattle.sheet.proofs.BadGuards.{bad-guard-rest}
 use Rattle.sheet.proofs.judge.bad_guard.Statement.{statement}
 use Rattle.sheet.proofs.judge.bad_guard.Tie as tie
 
@@ -28,52 +27,26 @@ wide-requires c κs = search needs
 byte-at-requires : tie.Need-byte-at-requires
 byte-at-requires c κs = search needs
 
+shared-slice-read-if1 : tie.Need-shared-slice-read-if1
+shared-slice-read-if1 c = search needs
+
 returns : tie.Need-returns
-returns c =
-    bad-guard-absent _ _ _ (c .before .before .before .before .before .before .before .pre)
-    (c .before .before .wide .ensures .0) (c .before .byte-at .ensures) (c .if1 .taken)
-
-shared-slice-read-if2 : tie.Need-shared-slice-read-if2
-shared-slice-read-if2 c = search needs
-
-returns-2 : tie.Need-returns-2
-returns-2 c =
-    bad-guard-own _ _ _ (c .before .before .before .before .before .before .before .before .before .pre)
-    (c .before .before .before .before .wide .ensures .0) (c .before .before .before .byte-at .ensures)
-    (c .before .before .if1 .left) (c .if2 .taken)
+returns c = wrong-guard-own _ _ _ (c .before .before .before .before .before .before .before .before .pre) (c .before .before .before .wide .ensures .0) (c .before .before .byte-at .ensures) (c .if1 .taken)
 
 not-rising-requires : tie.Need-not-rising-requires
 not-rising-requires c κs = search needs
 
+returns-2 : tie.Need-returns-2
+returns-2 c = wrong-guard-falls _ _ _ (c .before .before .before .before .before .before .before .before .before .before .pre) (c .before .before .before .before .before .wide .ensures .0) (c .before .before .before .before .byte-at .ensures)
+    (c .before .before .if1 .left) (c .before .not-rising .ensures) (c .if2 .taken)
+
 returns-3 : tie.Need-returns-3
-returns-3 c =
-    bad-guard-falls _ _ _
-    (c .before .before .before .before .before .before .before .before .before .before .before .pre)
-    (c .before .before .before .before .before .before .wide .ensures .0)
-    (c .before .before .before .before .before .byte-at .ensures) (c .before .before .before .before .if1 .left)
-    (c .before .before .if2 .left) (c .before .not-rising .ensures) (c .if3 .taken)
+returns-3 c = wrong-guard-empty _ _ _ (c .before .before .before .before .before .before .before .before .before .before .before .pre) (c .before .before .before .before .before .before .wide .ensures .0) (c .before .before .before .before .before .byte-at .ensures)
+    (c .before .before .before .if1 .left) (c .before .before .not-rising .ensures) (c .before .if2 .left) (c .if3 .taken)
 
 returns-4 : tie.Need-returns-4
-returns-4 c =
-    bad-guard-empty _ _ _
-    (c .before .before .before .before .before .before .before .before .before .before .before .before .pre)
-    (c .before .before .before .before .before .before .before .wide .ensures .0)
-    (c .before .before .before .before .before .before .byte-at .ensures)
-    (c .before .before .before .before .before .if1 .left) (c .before .before .before .if2 .left)
-    (c .before .before .not-rising .ensures) (c .before .if3 .left) (c .if4 .taken)
-
-has-beyond-requires : tie.Need-has-beyond-requires
-has-beyond-requires c κs = search needs
-
-returns-5 : tie.Need-returns-5
-returns-5 c =
-    bad-guard-rest _ _ _
-    (c .before .before .before .before .before .before .before .before .before .before .before .before .before .pre)
-    (c .before .before .before .before .before .before .before .before .wide .ensures .0)
-    (c .before .before .before .before .before .before .before .byte-at .ensures)
-    (c .before .before .before .before .before .before .if1 .left) (c .before .before .before .before .if2 .left)
-    (c .before .before .before .not-rising .ensures) (c .before .before .if3 .left) (c .before .if4 .left)
-    (c .has-beyond .ensures)
+returns-4 c = wrong-guard-rest _ _ _ (c .before .before .before .before .before .before .before .before .before .before .before .pre) (c .before .before .before .before .before .before .wide .ensures .0) (c .before .before .before .before .before .byte-at .ensures)
+    (c .before .before .before .if1 .left) (c .before .before .not-rising .ensures) (c .before .if2 .left) (c .if3 .left)
 
 pub bad-guard-spec : {M : Type 1} → statement M
 bad-guard-spec =
@@ -87,11 +60,9 @@ bad-guard-spec =
     shared-slice-read-mask
     wide-requires
     byte-at-requires
+    shared-slice-read-if1
     returns
-    shared-slice-read-if2
-    returns-2
     not-rising-requires
+    returns-2
     returns-3
-    returns-4
-    has-beyond-requires
-    returns-5)
+    returns-4)

@@ -3,17 +3,17 @@ use mathlib.Core.Bool.{false}
 use mathlib.Core.Path.{_≡_, refl}
 use borrow.Author.Needs.{needs}
 use Rattle.common.specs.Lists.{any, upTo}
-use Rattle.sheet.specs.Faults.{badGuard}
+use Rattle.sheet.specs.Held.{wrongGuard}
 use Rattle.sheet.specs.Model.{moveOf}
 use Rattle.sheet.proofs.BadGuards.{guards-none, guards-more, guards-some, guards-all}
 use Rattle.sheet.proofs.judge.bad_guards.Statement.{statement}
 use Rattle.sheet.proofs.judge.bad_guards.Tie as tie
 
 abbrev Inv-loop : tie.InvT-loop
-Inv-loop body modes count n₀ n = (n ≤ count) × (any (badGuard modes (moveOf body)) (upTo n) ≡ false)
+Inv-loop body tops count n₀ n = (n ≤ count) × (any (wrongGuard tops (moveOf body)) (upTo n) ≡ false)
 
 abbrev μ-loop : tie.MeasureT-loop
-μ-loop body modes count n₀ n = count - n
+μ-loop body tops count n₀ n = count - n
 
 sub-count : tie.Need-sub-count Inv-loop μ-loop
 sub-count c = search needs

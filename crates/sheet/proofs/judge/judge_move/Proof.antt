@@ -1,118 +1,61 @@
-use Prim.Native.Nat.{_≤_}
 use native.Mathlib.Omega.{arith}
+use Rattle.sheet.proofs.Judging.{move-early, move-many, move-bad, move-guards, move-silent, move-repeated, move-fine}
 use borrow.Author.Needs.{needs}
-use lib.ListN.{length}
-use Rattle.sheet.proofs.Judging.{move-long, move-length, move-early, move-many, move-bad, move-guards}
-use Rattle.sheet.proofs.Judging.{move-silent, move-repeated, move-fine}
 use Rattle.sheet.proofs.judge.judge_move.Statement.{statement}
 use Rattle.sheet.proofs.judge.judge_move.Tie as tie
 
-wrong-move-length-requires : tie.Need-wrong-move-length-requires
-wrong-move-length-requires c κs = search needs
-
 returns : tie.Need-returns
-returns c = λ m at h. move-length m at _ h (c .before .wrong-move-length .ensures) (c .if1 .taken)
+returns c = λ m at h t k. move-early m at _ h t (c .if1 .taken)
 
 returns-2 : tie.Need-returns-2
-returns-2 c =
-    λ m at h. move-early m at _ h (c .before .before .wrong-move-length .ensures) (c .before .if1 .left)
-    (c .if2 .taken)
-
-returns-3 : tie.Need-returns-3
-returns-3 c =
-    λ m at h. move-many m at _ h (c .before .before .before .wrong-move-length .ensures) (c .before .before .if1 .left)
-    (c .before .if2 .left) (c .if3 .taken)
+returns-2 c = λ m at h t k. move-many m at _ h t (c .before .if1 .left) (c .if2 .taken)
 
 bad-move-requires : tie.Need-bad-move-requires
-bad-move-requires c κs =
-    move-long _ (c .before .before .before .wrong-move-length .ensures) (c .before .before .if1 .left) .0
+bad-move-requires c κs = search needs
 
-returns-4 : tie.Need-returns-4
-returns-4 c =
-    λ m at h. move-bad m at _ h (c .before .before .before .before .before .wrong-move-length .ensures)
-    (c .before .before .before .before .if1 .left) (c .before .before .before .if2 .left)
-    (c .before .before .if3 .left) (c .before .bad-move .ensures) (c .if4 .taken)
+returns-3 : tie.Need-returns-3
+returns-3 c = λ m at h t k. move-bad m at _ h t (c .before .before .before .if1 .left) (c .before .before .if2 .left) (c .before .bad-move .ensures)
+    (c .if3 .taken)
 
 bad-guards-requires : tie.Need-bad-guards-requires
-bad-guards-requires c κs =
-    move-long _ (c .before .before .before .before .before .wrong-move-length .ensures)
-    (c .before .before .before .before .if1 .left) .0
+bad-guards-requires c κs = search needs
+
+returns-4 : tie.Need-returns-4
+returns-4 c = λ m at h t k. move-guards m at _ h t (c .before .before .before .before .before .if1 .left) (c .before .before .before .before .if2 .left) (c .before .before .before .bad-move .ensures)
+    (c .before .before .if3 .left) (c .before .bad-guards .ensures) (c .if4 .taken)
+
+shared-slice-read-if5 : tie.Need-shared-slice-read-if5
+shared-slice-read-if5 c = search needs
 
 returns-5 : tie.Need-returns-5
-returns-5 c =
-    λ m at h. move-guards m at _ h
-    (c .before .before .before .before .before .before .before .wrong-move-length .ensures)
-    (c .before .before .before .before .before .before .if1 .left)
-    (c .before .before .before .before .before .if2 .left) (c .before .before .before .before .if3 .left)
-    (c .before .before .before .bad-move .ensures) (c .before .before .if4 .left) (c .before .bad-guards .ensures)
-    (c .if5 .taken)
-
-shared-slice-read-if6 : tie.Need-shared-slice-read-if6
-shared-slice-read-if6 c =
-    let n : 4 ≤ length
-    (c .before .before .before .before .before .before .before .before .before .before .before .before .before .args .body .now)
-    = move-long _ (c .before .before .before .before .before .before .before .before .wrong-move-length .ensures)
-    (c .before .before .before .before .before .before .before .if1 .left) .0 in search needs
-
-returns-6 : tie.Need-returns-6
-returns-6 c =
-    λ m at h. move-silent m at _ h
-    (c .before .before .before .before .before .before .before .before .before .wrong-move-length .ensures)
-    (c .before .before .before .before .before .before .before .before .if1 .left)
-    (c .before .before .before .before .before .before .before .if2 .left)
-    (c .before .before .before .before .before .before .if3 .left)
-    (c .before .before .before .before .before .bad-move .ensures) (c .before .before .before .before .if4 .left)
-    (c .before .before .before .bad-guards .ensures) (c .before .before .if5 .left) (c .if6 .taken)
-
-key-of-requires : tie.Need-key-of-requires
-key-of-requires c κs = search needs
+returns-5 c = λ m at h t k. move-silent m at _ h t (c .before .before .before .before .before .before .before .if1 .left) (c .before .before .before .before .before .before .if2 .left) (c .before .before .before .before .before .bad-move .ensures)
+    (c .before .before .before .before .if3 .left) (c .before .before .before .bad-guards .ensures) (c .before .before .if4 .left) (c .if5 .taken)
 
 repeated-requires : tie.Need-repeated-requires
 repeated-requires c κs = search needs
 
-returns-7 : tie.Need-returns-7
-returns-7 c =
-    λ m at h. move-repeated m at _ h
-    (c .before .before .before .before .before .before .before .before .before .before .before .before .wrong-move-length .ensures)
-    (c .before .before .before .before .before .before .before .before .before .before .before .if1 .left)
-    (c .before .before .before .before .before .before .before .before .before .before .if2 .left)
-    (c .before .before .before .before .before .before .before .before .before .if3 .left)
-    (c .before .before .before .before .before .before .before .before .bad-move .ensures)
-    (c .before .before .before .before .before .before .before .if4 .left)
-    (c .before .before .before .before .before .before .bad-guards .ensures)
-    (c .before .before .before .before .before .if5 .left) (c .before .before .before .if6 .left)
-    (omega (arith, c .before .before .before .before .shared-slice-known5 .given 3))
-    (c .before .before .key-of .ensures) (c .before .repeated .ensures) (c .if7 .taken)
+returns-6 : tie.Need-returns-6
+returns-6 c = λ m at h t k. move-repeated m at _ h t (c .before .before .before .before .before .before .before .before .before .if1 .left) (c .before .before .before .before .before .before .before .before .if2 .left) (c .before .before .before .before .before .before .before .bad-move .ensures)
+    (c .before .before .before .before .before .before .if3 .left) (c .before .before .before .before .before .bad-guards .ensures) (c .before .before .before .before .if4 .left) (c .before .before .if5 .left)
+    (omega (arith, c .before .before .before .shared-slice-known6 .given 3)) k (c .before .repeated .ensures) (c .if6 .taken)
 
-returns-8 : tie.Need-returns-8
-returns-8 c =
-    λ m at h. move-fine m at _ h
-    (c .before .before .before .before .before .before .before .before .before .before .before .before .wrong-move-length .ensures)
-    (c .before .before .before .before .before .before .before .before .before .before .before .if1 .left)
-    (c .before .before .before .before .before .before .before .before .before .before .if2 .left)
-    (c .before .before .before .before .before .before .before .before .before .if3 .left)
-    (c .before .before .before .before .before .before .before .before .bad-move .ensures)
-    (c .before .before .before .before .before .before .before .if4 .left)
-    (c .before .before .before .before .before .before .bad-guards .ensures)
-    (c .before .before .before .before .before .if5 .left) (c .before .before .before .if6 .left)
-    (omega (arith, c .before .before .before .before .shared-slice-known5 .given 3))
-    (c .before .before .key-of .ensures) (c .before .repeated .ensures) (c .if7 .left)
+returns-7 : tie.Need-returns-7
+returns-7 c = λ m at h t k. move-fine m at _ h t (c .before .before .before .before .before .before .before .before .before .if1 .left) (c .before .before .before .before .before .before .before .before .if2 .left) (c .before .before .before .before .before .before .before .bad-move .ensures)
+    (c .before .before .before .before .before .before .if3 .left) (c .before .before .before .before .before .bad-guards .ensures) (c .before .before .before .before .if4 .left) (c .before .before .if5 .left)
+    (omega (arith, c .before .before .before .shared-slice-known6 .given 3)) k (c .before .repeated .ensures) (c .if6 .left)
 
 pub judge-move-spec : {M : Type 1} → statement M
 judge-move-spec =
     tie.close
     (tie.spec
-    wrong-move-length-requires
     returns
     returns-2
-    returns-3
     bad-move-requires
-    returns-4
+    returns-3
     bad-guards-requires
+    returns-4
+    shared-slice-read-if5
     returns-5
-    shared-slice-read-if6
-    returns-6
-    key-of-requires
     repeated-requires
-    returns-7
-    returns-8)
+    returns-6
+    returns-7)

@@ -1,24 +1,24 @@
 use native.Mathlib.Omega.{arith}
-use borrow.Author.Needs.{needs}
 use Rattle.sheet.specs.Held.{keyOf}
 use Rattle.sheet.specs.Model.{moveOf}
+use borrow.Author.Needs.{needs}
 use Rattle.sheet.proofs.judge.key_of.Statement.{statement}
 use Rattle.sheet.proofs.judge.key_of.Tie as tie
 
-byte-at-requires : tie.Need-byte-at-requires
-byte-at-requires c κs = search needs
+shared-slice-read-wide : tie.Need-shared-slice-read-wide
+shared-slice-read-wide c = search needs
 
 wide-requires : tie.Need-wide-requires
 wide-requires c κs = search needs
 
-byte-at-requires-2 : tie.Need-byte-at-requires-2
-byte-at-requires-2 c κs = search needs
+shared-slice-read-wide-2 : tie.Need-shared-slice-read-wide-2
+shared-slice-read-wide-2 c = search needs
 
 wide-requires-2 : tie.Need-wide-requires-2
 wide-requires-2 c κs = search needs
 
-byte-at-requires-3 : tie.Need-byte-at-requires-3
-byte-at-requires-3 c κs = search needs
+shared-slice-read-wide-3 : tie.Need-shared-slice-read-wide-3
+shared-slice-read-wide-3 c = search needs
 
 wide-requires-3 : tie.Need-wide-requires-3
 wide-requires-3 c κs = search needs
@@ -46,11 +46,11 @@ pub key-of-spec : {M : Type 1} → statement M
 key-of-spec =
     tie.close
     (tie.spec
-    byte-at-requires
+    shared-slice-read-wide
     wide-requires
-    byte-at-requires-2
+    shared-slice-read-wide-2
     wide-requires-2
-    byte-at-requires-3
+    shared-slice-read-wide-3
     wide-requires-3
     mul-result
     mul-result-2

@@ -34,7 +34,7 @@ move-step-requires : tie.Need-move-step-requires
 move-step-requires c κs = (
   next-is _ _ (c .before .before .before .before .before .read .ensures) (c .before .before .before .kind .given .1)
       (c .before .body .ensures),
-  c .before .before .before .before .before .before .before .before .before .before .pre,
+  c .before .before .before .before .before .before .before .before .before .before .before .pre,
 )
 
 end-step-requires : tie.Need-end-step-requires
