@@ -129,8 +129,8 @@ module _ (modes : List ℕ) (v : Move) (n : ℕ) where
       let mask : ℕ = guardAt v n .mask in
       let count : ℕ = getD modes machine 0 in
       rw (top-at, top-beyond)
-      (absent (eqb count 0) (eqb machine (v .machine)) (ltb 0 n && leb machine (guardAt v (n - 1) .machine)) (eqb mask 0)
-      (beyond count mask) (λ z e. absent-beyond count mask (eqb-true count 0 z) (eqb-false mask 0 e)))
+      (absent (eqb count 0) (eqb machine (v .machine)) (ltb 0 n && leb machine (guardAt v (n - 1) .machine))
+      (eqb mask 0) (beyond count mask) (λ z e. absent-beyond count mask (eqb-true count 0 z) (eqb-false mask 0 e)))
 
 pub guards-by-tops : (modes : List ℕ) (v : Move) → wrongGuards (pad 256 (map topOf modes)) v ≡ badGuards modes v
 unfolding wrongGuards badGuards

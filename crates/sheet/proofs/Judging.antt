@@ -30,8 +30,8 @@ use Rattle.sheet.proofs.BadGuards.{guards-by-tops}
 
 -- a move that passes 6 has small numbers
 pub small-move : (m : Model) {machines moves : ℕ} {tops live keys highest : List ℕ} (body : List ℕ)
-    → Held m machines moves tops live keys highest → byte body 0 < machineCount m → byte body 1 < modeCount m (byte body 0)
-    → byte body 3 < 256 → Small (moveOf body)
+    → Held m machines moves tops live keys highest
+    → byte body 0 < machineCount m → byte body 1 < modeCount m (byte body 0) → byte body 3 < 256 → Small (moveOf body)
 unfolding moveOf
 small-move m body h present from last =
     record {
@@ -46,8 +46,8 @@ unfolding moveOf
 valid-small m body h v last = small-move m body h (v .present) (v .from-present) last
 
 passed-small : (m : Model) {machines moves : ℕ} {tops live keys highest : List ℕ} (body : List ℕ)
-    → Held m machines moves tops live keys highest → badMove (m .modes) (m .live) (moveOf body) ≡ false → byte body 3 < 256
-    → Small (moveOf body)
+    → Held m machines moves tops live keys highest
+    → badMove (m .modes) (m .live) (moveOf body) ≡ false → byte body 3 < 256 → Small (moveOf body)
 unfolding badMove moveOf
 passed-small m body h f last =
     let from = leb-false _ _ (or-false-left _ _ (or-false-left _ _ (or-false-left _ _ (or-false-left _ _ f)))) in

@@ -79,7 +79,8 @@ key-tells v w a b =
 
 -- a command above the highest of its machine and mode: the key is new
 pub key-above : (key : ℕ) (highest keys : List ℕ) {mode high command : ℕ} → mode ≡ key / 256
-    → high ≡ getD highest mode 0 → command ≡ key % 256 → high < command → Below highest keys → false ≡ any (eqb key) keys
+    → high ≡ getD highest mode 0 → command ≡ key % 256 → high < command → Below highest keys
+    → false ≡ any (eqb key) keys
 key-above key highest keys {mode} {high} e f g a h =
     sym (any-fails (eqb key) keys (λ k i. ne-eqb key k (λ same.
     let b : key % 256 ≤ high = rw (f, e, same) (h k i) in

@@ -110,8 +110,8 @@ pub record Scanned (s modes tops live bodies keys highest : List ℕ) (machines 
   pub leads : parse s ≡ parseFrom left s at parsed
 
 pub scan-start : (s : List ℕ)
-    → Scanned s (replicate 32 0) (replicate 256 0) (replicate 32 0) (replicate 250 0) (replicate 250 0) (replicate 256 0)
-    0 0 0 283
+    → Scanned s (replicate 32 0) (replicate 256 0) (replicate 32 0) (replicate 250 0) (replicate 250 0)
+    (replicate 256 0) 0 0 0 283
 unfolding parse beyond
 scan-start s =
     record {
@@ -209,18 +209,16 @@ module _ (s : List ℕ) {modes tops live bodies keys highest : List ℕ} {machin
             leads = h .leads ∙ turn-next s at (h .parsed) left some (sym (told e .leads));
           }
 
-      pub scan-move : {start key next mode command high : ℕ} → t ≡ NewMove start key next
-          → mode ≡ key / 256 → command ≡ key % 256 → (getD highest mode 0 ≤ high) × (command ≤ high)
+      pub scan-move : {start key next mode high : ℕ} → t ≡ NewMove start key next → mode ≡ key / 256
+          → (getD highest mode 0 ≤ high) × (key % 256 ≤ high)
           → Scanned s modes tops live (set bodies moves start) (set keys moves key) (set highest mode high)
           machines (moves + 1) next (left - 1)
       unfolding withMove
-      scan-move {start} {key} {next} {mode} {command} {high} e p q r =
+      scan-move {start} {key} {next} {mode} {high} e p r =
           let f = told e .fits in
           record {
             parsed = moveRead (h .parsed) start (moveOf (bodyAt s at));
-            held =
-                rw p
-                (held-move (h .parsed .model) (h .held) f (h .highest-long) (rw p at r .0) (rw q at r .1));
+            held = rw p (held-move (h .parsed .model) (h .held) f (h .highest-long) (rw p at r .0) (r .1));
             highest-long = length-set highest mode high ∙ h .highest-long;
             modes-in = h .modes-in;
             bodies-in = fills 250 (h .parsed .bodies) start (h .bodies-in) (h .bodies-are) (move-room e);

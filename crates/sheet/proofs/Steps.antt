@@ -57,7 +57,8 @@ module _ (d : Parsed) (at next : ℕ) (body : List ℕ) {j : Judged} (long : nex
       }
 
   pub step-move : {machines moves key : ℕ} {tops live keys highest : List ℕ}
-      → Held (d .model) machines moves tops live keys highest → judgedOf j at ≡ unless (moveFaults (d .model) at body) fine → j ≡ Fine → byte body 3 < 256
+      → Held (d .model) machines moves tops live keys highest
+      → judgedOf j at ≡ unless (moveFaults (d .model) at body) fine → j ≡ Fine → byte body 3 < 256
       → key ≡ keyOf (moveOf body)
       → Stepped (unless (moveFaults (d .model) at body) (given (more next (moveRead d (at + 4) (moveOf body)))))
       d (moveOf body) at (NewMove (at + 4) key next)

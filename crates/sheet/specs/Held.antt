@@ -30,7 +30,8 @@ topOf n = 2 ^ n - 1
 -- 6 by the live modes alone
 unfoldable pub deadMove : List ℕ → Move → Bool
 deadMove live v =
-    eqb (v .from) (v .to) || not (bit (getD live (v .machine) 0) (v .from)) || not (bit (getD live (v .machine) 0) (v .to))
+    eqb (v .from) (v .to)
+    || not (bit (getD live (v .machine) 0) (v .from)) || not (bit (getD live (v .machine) 0) (v .to))
 
 -- 7 by the tops
 unfoldable pub wrongGuard : List ℕ → Move → ℕ → Bool

@@ -2,7 +2,7 @@
 use Prim.Native.Nat.{ℕ, _+_, _≤_, _<_}
 use mathlib.Core.Path.{_≡_}
 use mathlib.Core.Bool.{false}
-use mathlib.Core.List.{List, [], _∷_, _++_}
+use mathlib.Core.List.{[], _∷_, _++_}
 use Rattle.common.specs.Bits.{beyond}
 use Rattle.common.specs.Reply.{Reply, given, refused}
 use Rattle.sheet.specs.declared.scan.Step.{Step}

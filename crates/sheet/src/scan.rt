@@ -17,7 +17,7 @@ use crate::refusal::Cause;
 use crate::refusal::Verdict;
 ghost use mathlib.Core.Path.{_≡_};
 ghost use mathlib.Core.List.{[], _∷_};
-ghost use Prim.Native.Nat.{_+_, _≤_, _<_};
+ghost use Prim.Native.Nat.{_+_, _%_, _≤_};
 ghost use lib.ListN.{length};
 ghost use lib.Dec.{ltb};
 ghost use Rattle.common.specs.Reply.{refused, given, unless, fault};
@@ -72,7 +72,8 @@ fn move_step(
 ) -> Step
     requires { ⌜ (next ≡ at + 4 + length (now body)) × (length (now keys) ≡ 250) ⌝ }
     ensures { λ r. ⌜ ((d : Parsed)
-        → Held (d .model) machines moves (now (tops .entry)) (now (live .entry)) (now (keys .entry)) (now (highest .entry))
+        → Held (d .model) machines moves (now (tops .entry)) (now (live .entry)) (now (keys .entry))
+        (now (highest .entry))
         → Stepped (unless (moveFaults (d .model) at (now (body .entry)))
         (given (more next (moveRead d (at + 4) (moveOf (now (body .entry)))))))
         d (moveOf (now (body .entry))) at r) ⌝ }
@@ -124,7 +125,8 @@ fn record_step(
 ) -> Step
     requires { ⌜ length (now keys) ≡ 250 ⌝ }
     ensures { λ r. ⌜ ((d : Parsed)
-        → Held (d .model) machines moves (now (tops .entry)) (now (live .entry)) (now (keys .entry)) (now (highest .entry))
+        → Held (d .model) machines moves (now (tops .entry)) (now (live .entry)) (now (keys .entry))
+        (now (highest .entry))
         → Stepped (turnOf (now (s .entry)) at d (recordAt (now (s .entry)) at))
         d (moveOf (bodyAt (now (s .entry)) at)) at r) ⌝ }
 {
@@ -141,14 +143,15 @@ fn record_step(
     }
 }
 
-// The higher of two commands.
-fn higher(a: u8, b: u8) -> u8
-    ensures { λ r. ⌜ (a ≤ r) × (b ≤ r) ⌝ }
+// The higher of a command and that of a key.
+fn higher(old: u8, key: u16) -> u8
+    ensures { λ r. ⌜ (old ≤ r) × (key % 256 ≤ r) ⌝ }
 {
-    if a < b {
-        return b;
+    let command = command_of(key);
+    if old < command {
+        return command;
     }
-    a
+    old
 }
 
 // The reply to a faulty sheet.
@@ -167,10 +170,12 @@ pub fn read(s: &[u8]) -> Reading
     ensures index { λ r. ⌜ r .sheet ≡ sheetOf (parse (now (s .entry))) ⌝ }
 {
     let mut modes = [0u8; 32];
+    // All modes of a machine as bits; none for a byte that names no machine.
     let mut tops = [0u8; 256];
     let mut live = [0u8; 32];
     let mut bodies = [0u16; 250];
     let mut keys = [0u16; 250];
+    // The highest command so far of each machine and from mode.
     let mut highest = [0u8; 256];
     let mut machines: usize = 0;
     let mut moves: usize = 0;
@@ -204,7 +209,7 @@ pub fn read(s: &[u8]) -> Reading
                 bodies[moves] = start as u16;
                 keys[moves] = key;
                 let mode = mode_of(key);
-                highest[mode] = higher(highest[mode], command_of(key));
+                highest[mode] = higher(highest[mode], key);
                 moves += 1;
                 at = next;
             }

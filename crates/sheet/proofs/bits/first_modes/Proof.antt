@@ -1,8 +1,8 @@
 use native.Mathlib.Omega.{arith}
+use borrow.Author.Needs.{needs}
 use lib.Pow.{pow-pos, pow-mono}
 use Rattle.sheet.specs.Held.{topOf}
 use Rattle.sheet.proofs.Modes.{shift-one}
-use borrow.Author.Needs.{needs}
 use Rattle.sheet.proofs.bits.first_modes.Statement.{statement}
 use Rattle.sheet.proofs.bits.first_modes.Tie as tie
 

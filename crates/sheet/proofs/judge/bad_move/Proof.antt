@@ -1,5 +1,5 @@
-use Rattle.sheet.proofs.BadMoves.{dead-stays, dead-failed, dead-rest}
 use borrow.Author.Needs.{needs}
+use Rattle.sheet.proofs.BadMoves.{dead-stays, dead-failed, dead-rest}
 use Rattle.sheet.proofs.judge.bad_move.Statement.{statement}
 use Rattle.sheet.proofs.judge.bad_move.Tie as tie
 
@@ -28,12 +28,15 @@ has-mode-requires-2 : tie.Need-has-mode-requires-2
 has-mode-requires-2 c κs = search needs
 
 returns-2 : tie.Need-returns-2
-returns-2 c = dead-rest _ _ (c .before .before .before .before .before .before .if1 .left) (c .before .before .before .before .wide .ensures .0) (c .before .before .before .byte-at .ensures) (c .before .before .has-mode .ensures)
-    (c .before .if2 .taken) (c .has-mode2 .ensures)
+returns-2 c =
+    dead-rest _ _ (c .before .before .before .before .before .before .if1 .left)
+    (c .before .before .before .before .wide .ensures .0) (c .before .before .before .byte-at .ensures)
+    (c .before .before .has-mode .ensures) (c .before .if2 .taken) (c .has-mode2 .ensures)
 
 returns-3 : tie.Need-returns-3
-returns-3 c = dead-failed _ _ (c .before .before .before .before .before .if1 .left) (c .before .before .before .wide .ensures .0) (c .before .before .byte-at .ensures) (c .before .has-mode .ensures)
-    (c .if2 .left)
+returns-3 c =
+    dead-failed _ _ (c .before .before .before .before .before .if1 .left) (c .before .before .before .wide .ensures .0)
+    (c .before .before .byte-at .ensures) (c .before .has-mode .ensures) (c .if2 .left)
 
 pub bad-move-spec : {M : Type 1} → statement M
 bad-move-spec =

@@ -1,7 +1,7 @@
 use native.Mathlib.Omega.{arith}
+use borrow.Author.Needs.{needs}
 use Rattle.sheet.specs.Held.{keyOf}
 use Rattle.sheet.specs.Model.{moveOf}
-use borrow.Author.Needs.{needs}
 use Rattle.sheet.proofs.judge.key_of.Statement.{statement}
 use Rattle.sheet.proofs.judge.key_of.Tie as tie
 

@@ -1,5 +1,5 @@
-use Rattle.sheet.proofs.Keys.{key-above}
 use borrow.Author.Needs.{needs}
+use Rattle.sheet.proofs.Keys.{key-above}
 use Rattle.sheet.proofs.judge.repeated.Statement.{statement}
 use Rattle.sheet.proofs.judge.repeated.Tie as tie
 
@@ -13,9 +13,10 @@ command-of-requires : tie.Need-command-of-requires
 command-of-requires c κs = search needs
 
 returns : tie.Need-returns
-returns c = key-above _ (c .before .before .before .before .before .before .args .highest .now) _
-    (c .before .before .before .mode-of .ensures .0) (c .before .before .byte-at .ensures) (c .before .command-of .ensures)
-    (c .if1 .taken)
+returns c =
+    key-above _ (c .before .before .before .before .before .before .args .highest .now) _
+    (c .before .before .before .mode-of .ensures .0) (c .before .before .byte-at .ensures)
+    (c .before .command-of .ensures) (c .if1 .taken)
 
 among-requires : tie.Need-among-requires
 among-requires c κs = search needs

@@ -1,17 +1,20 @@
 use mathlib.Core.Path.{sym}
 use native.Mathlib.Omega.{arith}
+use borrow.Author.Needs.{needs}
 use Rattle.sheet.proofs.Scanning.{Scanned, scan-start, tops-long, live-long, keys-long, index-is, scan-out}
 use Rattle.sheet.proofs.Scanning.{machine-room, machine-few, move-room, place-fits, scan-machine, scan-move}
 use Rattle.sheet.proofs.Scanning.{scan-ended, scan-refused, reading-accepted, reading-refused}
-use borrow.Author.Needs.{needs}
 use Rattle.sheet.proofs.scan.read.Statement.{statement}
 use Rattle.sheet.proofs.scan.read.Tie as tie
 
 abbrev Inv-loop : tie.InvT-loop
-Inv-loop s modes₀ tops₀ live₀ bodies₀ keys₀ highest₀ machines₀ moves₀ at₀ left₀ modes tops live bodies keys highest machines moves at left = Scanned s modes tops live bodies keys highest machines moves at left
+Inv-loop s modes₀ tops₀ live₀ bodies₀ keys₀ highest₀ machines₀ moves₀ at₀ left₀
+    modes tops live bodies keys highest machines moves at left =
+    Scanned s modes tops live bodies keys highest machines moves at left
 
 abbrev μ-loop : tie.MeasureT-loop
-μ-loop s modes₀ tops₀ live₀ bodies₀ keys₀ highest₀ machines₀ moves₀ at₀ left₀ modes tops live bodies keys highest machines moves at left = left
+μ-loop s modes₀ tops₀ live₀ bodies₀ keys₀ highest₀ machines₀ moves₀ at₀ left₀
+    modes tops live bodies keys highest machines moves at left = left
 
 loop-holds : tie.Need-loop-holds Inv-loop μ-loop
 loop-holds c = scan-start _
@@ -38,44 +41,81 @@ enum-known-t : tie.Need-enum-known-t Inv-loop μ-loop
 enum-known-t c = search needs
 
 array-write-modes : tie.Need-array-write-modes Inv-loop μ-loop
-array-write-modes c = machine-room _ (c .before .before .before .before .before .before .before .before .before .loop .inv) (c .before .before .before .record-step .ensures) (c .before .t .given .1)
+array-write-modes c =
+    machine-room _ (c .before .before .before .before .before .before .before .before .before .loop .inv)
+    (c .before .before .before .record-step .ensures) (c .before .t .given .1)
 
 first-modes-requires : tie.Need-first-modes-requires Inv-loop μ-loop
-first-modes-requires c κs = machine-few _ (c .before .before .before .before .before .before .before .before .before .loop .inv) (c .before .before .before .record-step .ensures) (c .before .t .given .1)
+first-modes-requires c κs =
+    machine-few _ (c .before .before .before .before .before .before .before .before .before .loop .inv)
+    (c .before .before .before .record-step .ensures) (c .before .t .given .1)
 
 array-write-tops : tie.Need-array-write-tops Inv-loop μ-loop
-array-write-tops c = omega (arith, machine-room _ (c .before .before .before .before .before .before .before .before .before .before .loop .inv) (c .before .before .before .before .record-step .ensures) (c .before .before .t .given .1))
+array-write-tops c =
+    omega (
+      arith,
+      machine-room _
+          (c .before .before .before .before .before .before .before .before .before .before .loop .inv)
+          (c .before .before .before .before .record-step .ensures) (c .before .before .t .given .1),
+    )
 
 array-write-live : tie.Need-array-write-live Inv-loop μ-loop
-array-write-live c = machine-room _ (c .before .before .before .before .before .before .before .before .before .before .loop .inv) (c .before .before .before .before .record-step .ensures) (c .before .before .t .given .1)
+array-write-live c =
+    machine-room _ (c .before .before .before .before .before .before .before .before .before .before .loop .inv)
+    (c .before .before .before .before .record-step .ensures) (c .before .before .t .given .1)
 
 add-machines : tie.Need-add-machines Inv-loop μ-loop
-add-machines c = omega (arith, machine-room _ (c .before .before .before .before .before .before .before .before .before .before .loop .inv) (c .before .before .before .before .record-step .ensures) (c .before .before .t .given .1))
+add-machines c =
+    omega (
+      arith,
+      machine-room _
+          (c .before .before .before .before .before .before .before .before .before .before .loop .inv)
+          (c .before .before .before .before .record-step .ensures) (c .before .before .t .given .1),
+    )
 
 loop-less : tie.Need-loop-less Inv-loop μ-loop
 loop-less c = search needs
 
 loop-again : tie.Need-loop-again Inv-loop μ-loop
-loop-again c = scan-machine _ (c .before .before .before .before .before .before .before .before .before .before .loop .inv) (c .before .before .before .before .record-step .ensures) (c .before .before .before .before .before .before .before .before .before .loop-test .taken)
+loop-again c =
+    scan-machine _ (c .before .before .before .before .before .before .before .before .before .before .loop .inv)
+    (c .before .before .before .before .record-step .ensures)
+    (c .before .before .before .before .before .before .before .before .before .loop-test .taken)
     (c .before .before .t .given .1) (c .first-modes .ensures)
 
 enum-known-t-2 : tie.Need-enum-known-t-2 Inv-loop μ-loop
 enum-known-t-2 c = search needs
 
 cast-bodies : tie.Need-cast-bodies Inv-loop μ-loop
-cast-bodies c = place-fits _ (c .before .before .before .before .before .before .before .before .before .loop .inv) (c .before .before .before .record-step .ensures) (c .before .t2 .given .1)
+cast-bodies c =
+    place-fits _ (c .before .before .before .before .before .before .before .before .before .loop .inv)
+    (c .before .before .before .record-step .ensures) (c .before .t2 .given .1)
 
 mul-bodies : tie.Need-mul-bodies Inv-loop μ-loop
-mul-bodies c = omega (arith, move-room _ (c .before .before .before .before .before .before .before .before .before .loop .inv) (c .before .before .before .record-step .ensures) (c .before .t2 .given .1))
+mul-bodies c =
+    omega (
+      arith,
+      move-room _ (c .before .before .before .before .before .before .before .before .before .loop .inv)
+          (c .before .before .before .record-step .ensures) (c .before .t2 .given .1),
+    )
 
 array-write-bodies : tie.Need-array-write-bodies Inv-loop μ-loop
-array-write-bodies c = move-room _ (c .before .before .before .before .before .before .before .before .before .loop .inv) (c .before .before .before .record-step .ensures) (c .before .t2 .given .1)
+array-write-bodies c =
+    move-room _ (c .before .before .before .before .before .before .before .before .before .loop .inv)
+    (c .before .before .before .record-step .ensures) (c .before .t2 .given .1)
 
 mul-keys : tie.Need-mul-keys Inv-loop μ-loop
-mul-keys c = omega (arith, move-room _ (c .before .before .before .before .before .before .before .before .before .loop .inv) (c .before .before .before .record-step .ensures) (c .before .t2 .given .1))
+mul-keys c =
+    omega (
+      arith,
+      move-room _ (c .before .before .before .before .before .before .before .before .before .loop .inv)
+          (c .before .before .before .record-step .ensures) (c .before .t2 .given .1),
+    )
 
 array-write-keys : tie.Need-array-write-keys Inv-loop μ-loop
-array-write-keys c = move-room _ (c .before .before .before .before .before .before .before .before .before .loop .inv) (c .before .before .before .record-step .ensures) (c .before .t2 .given .1)
+array-write-keys c =
+    move-room _ (c .before .before .before .before .before .before .before .before .before .loop .inv)
+    (c .before .before .before .record-step .ensures) (c .before .t2 .given .1)
 
 mode-of-requires : tie.Need-mode-of-requires Inv-loop μ-loop
 mode-of-requires c κs = search needs
@@ -83,31 +123,40 @@ mode-of-requires c κs = search needs
 array-read-higher : tie.Need-array-read-higher Inv-loop μ-loop
 array-read-higher c = c .mode-of .ensures .1
 
-command-of-requires : tie.Need-command-of-requires Inv-loop μ-loop
-command-of-requires c κs = search needs
-
 higher-requires : tie.Need-higher-requires Inv-loop μ-loop
 higher-requires c κs = search needs
 
 array-write-highest : tie.Need-array-write-highest Inv-loop μ-loop
-array-write-highest c = c .before .before .mode-of .ensures .1
+array-write-highest c = c .before .mode-of .ensures .1
 
 add-moves : tie.Need-add-moves Inv-loop μ-loop
-add-moves c = omega (arith, move-room _ (c .before .before .before .before .before .before .before .before .before .before .before .before .loop .inv) (c .before .before .before .before .before .before .record-step .ensures) (c .before .before .before .before .t2 .given .1))
+add-moves c =
+    omega (
+      arith,
+      move-room _
+          (c .before .before .before .before .before .before .before .before .before .before .before .loop .inv)
+          (c .before .before .before .before .before .record-step .ensures) (c .before .before .before .t2 .given .1),
+    )
 
 loop-less-2 : tie.Need-loop-less-2 Inv-loop μ-loop
 loop-less-2 c = search needs
 
 loop-again-2 : tie.Need-loop-again-2 Inv-loop μ-loop
-loop-again-2 c = scan-move _ (c .before .before .before .before .before .before .before .before .before .before .before .before .loop .inv) (c .before .before .before .before .before .before .record-step .ensures) (c .before .before .before .before .before .before .before .before .before .before .before .loop-test .taken)
-    (c .before .before .before .before .t2 .given .1) (c .before .before .mode-of .ensures .0) (c .before .command-of .ensures) (c .higher .ensures)
+loop-again-2 c =
+    scan-move _ (c .before .before .before .before .before .before .before .before .before .before .before .loop .inv)
+    (c .before .before .before .before .before .record-step .ensures)
+    (c .before .before .before .before .before .before .before .before .before .before .loop-test .taken)
+    (c .before .before .before .t2 .given .1) (c .before .mode-of .ensures .0) (c .higher .ensures)
 
 enum-told : tie.Need-enum-told Inv-loop μ-loop
 enum-told c = search needs
 
 returns : tie.Need-returns Inv-loop μ-loop
-returns c = reading-accepted _ (index-is _ (c .before .before .before .before .before .before .before .before .loop .inv))
-    (scan-ended _ (c .before .before .before .before .before .before .before .before .loop .inv) (c .before .before .record-step .ensures) (c .before .before .before .before .before .before .before .loop-test .taken) (c .enum-told .given .1))
+returns c =
+    reading-accepted _ (index-is _ (c .before .before .before .before .before .before .before .before .loop .inv))
+    (scan-ended _ (c .before .before .before .before .before .before .before .before .loop .inv)
+    (c .before .before .record-step .ensures)
+    (c .before .before .before .before .before .before .before .loop-test .taken) (c .enum-told .given .1))
 
 enum-known-t-3 : tie.Need-enum-known-t-3 Inv-loop μ-loop
 enum-known-t-3 c = search needs
@@ -116,8 +165,12 @@ refusal-requires : tie.Need-refusal-requires Inv-loop μ-loop
 refusal-requires c κs = search needs
 
 returns-2 : tie.Need-returns-2 Inv-loop μ-loop
-returns-2 c = reading-refused _ (c .refusal .result) (c .refusal .ensures)
-    (scan-refused _ (c .before .before .before .before .before .before .before .before .before .before .loop .inv) (c .before .before .before .before .record-step .ensures) (c .before .before .before .before .before .before .before .before .before .loop-test .taken) (c .before .before .t3 .given .1))
+returns-2 c =
+    reading-refused _ (c .refusal .result) (c .refusal .ensures) (scan-refused _
+    (c .before .before .before .before .before .before .before .before .before .before .loop .inv)
+    (c .before .before .before .before .record-step .ensures)
+    (c .before .before .before .before .before .before .before .before .before .loop-test .taken)
+    (c .before .before .t3 .given .1))
 
 refusal-requires-2 : tie.Need-refusal-requires-2 Inv-loop μ-loop
 refusal-requires-2 c κs = search needs
@@ -155,7 +208,6 @@ read-spec =
     array-write-keys
     mode-of-requires
     array-read-higher
-    command-of-requires
     higher-requires
     array-write-highest
     add-moves
