@@ -23,7 +23,7 @@ use Rattle.sheet.specs.declared.index.Reading.{Reading}
 use Rattle.sheet.specs.Refusal.{numberOf}
 use Rattle.sheet.specs.Record.{recordAt, bodyAt}
 use Rattle.sheet.specs.Model.{Move, Model, moveOf, withMachine, withMove}
-use Rattle.sheet.specs.Parse.{Parsed, nothing, more, turnOf, parseFrom, parse}
+use Rattle.sheet.specs.Parse.{Parsed, nothing, turnOf, parseFrom, parse}
 use Rattle.sheet.specs.Index.{indexOf, readingOf, indexReply, sheetOf}
 use Rattle.sheet.specs.Held.{topOf, keyOf, Small, Below, Held}
 use Rattle.sheet.specs.Scan.{machineRead, moveRead, MachineFits, MoveFits, Stepped}

@@ -8,24 +8,24 @@ use Rattle.common.specs.Lists.{upTo, any}
 use Rattle.common.specs.Bits.{bit, beyond}
 use Rattle.common.specs.Reply.{Fault, fault}
 use Rattle.sheet.specs.Record.{byte}
-use Rattle.sheet.specs.Model.{Guard, Move, Model, machineCount, moveCount, guardAt, moveOf}
+use Rattle.sheet.specs.Model.{Move, Model, machineCount, moveCount, guardAt, moveOf}
 
 -- 2 for a move: its machine, modes and command, then 0 to 8 needs of two bytes
 unfoldable pub wrongMoveLength : ℕ → Bool
 wrongMoveLength n = ltb n 4 || ltb 20 n || eqb (n % 2) 1
 
--- 5: mode count outside 1 to 8, live byte empty or beyond the modes
+-- 5: no mode or more than 8, no live mode, or a live mode that the machine does not have
 unfoldable pub badMachine : ℕ → ℕ → Bool
 badMachine modes live = eqb modes 0 || ltb 8 modes || eqb live 0 || beyond modes live
 
--- 6: the move's machine or a mode absent (an absent machine has no modes), from equal to to, a mode out of order
+-- 6: a mode that the machine does not have (an absent one has none), a move to where it starts, or a mode that is not live
 unfoldable pub badMove : List ℕ → List ℕ → Move → Bool
 badMove modes live v =
     leb (getD modes (v .machine) 0) (v .from) || leb (getD modes (v .machine) 0) (v .to)
     || eqb (v .from) (v .to)
     || not (bit (getD live (v .machine) 0) (v .from)) || not (bit (getD live (v .machine) 0) (v .to))
 
--- 7 for need n: its machine absent, the move's own or not above that of the need before; its byte empty or beyond
+-- 7 for need n: of no machine, of the mover itself or not above the need before; allowing no mode, or one that is not there
 unfoldable pub badGuard : List ℕ → Move → ℕ → Bool
 badGuard modes v n =
     eqb (getD modes (guardAt v n .machine) 0) 0
@@ -41,7 +41,7 @@ badGuards modes v = any (badGuard modes v) (upTo (length (v .guards)))
 unfoldable pub sameMove : Move → Move → Bool
 sameMove v w = eqb (v .machine) (w .machine) && eqb (v .from) (w .from) && eqb (v .command) (w .command)
 
--- 8: command 0, or an earlier move again
+-- 8: no command, or an earlier move once more
 unfoldable pub badCommand : List Move → Move → Bool
 badCommand earlier v = eqb (v .command) 0 || any (sameMove v) earlier
 

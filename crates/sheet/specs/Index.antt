@@ -1,7 +1,7 @@
 -- The index of a sheet that was read: what the code keeps of it, and its answers.
-use Prim.Native.Nat.{ℕ, _+_, _-_, _*_, _/_}
-use mathlib.Core.List.{List, [], map}
-use lib.ListN.{length, getD}
+use Prim.Native.Nat.{ℕ, _+_, _-_, _/_}
+use mathlib.Core.List.{List}
+use lib.ListN.{getD}
 use Rattle.common.specs.Lists.{pad}
 use Rattle.common.specs.Reply.{Reply, given, refused}
 use Rattle.sheet.specs.declared.index.Sheet.{Sheet}
@@ -42,7 +42,8 @@ abbrev pub sheetOf : Reply Parsed → Sheet
 sheetOf (given d) = indexOf d
 sheetOf (refused number place) = indexOf nothing
 
--- The answers of an index over the file that was read. Past the counts they are 0.
+-- The answers of an index over the file that was read. A machine past the count has no modes; a move past the count has the
+-- offset 0, and what is read there says nothing.
 abbrev pub modesIn : Sheet → ℕ → ℕ
 modesIn x i = getD (x .modes) i 0
 

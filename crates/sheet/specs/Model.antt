@@ -1,9 +1,8 @@
 -- What a sheet says: its machines, its moves and what each move needs ("The sheet").
 use Prim.Native.Nat.{ℕ, _+_, _-_, _*_, _/_}
 use mathlib.Core.List.{List, [], _∷_, map, _++_}
-use mathlib.Core.Bool.{Bool, _&&_, not}
-use lib.ListN.{length, getD, drop}
-use lib.Dec.{eqb, ltb}
+use mathlib.Core.Bool.{Bool}
+use lib.ListN.{length, getD}
 use Rattle.common.specs.Lists.{upTo}
 use Rattle.common.specs.Bits.{bit}
 use Rattle.sheet.specs.Record.{byte}

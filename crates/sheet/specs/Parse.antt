@@ -1,7 +1,7 @@
 -- Reading a sheet front to back: the first faulty record refuses it, by its lowest number (1 to 8, "Order").
 use Prim.Native.Nat.{ℕ, zero, suc, _+_}
 use mathlib.Core.List.{List, [], _∷_, _++_}
-use mathlib.Core.Bool.{Bool, cond}
+use mathlib.Core.Bool.{cond}
 use lib.ListN.{length}
 use lib.Dec.{eqb, ltb}
 use Rattle.common.specs.Reply.{Reply, given, refused, fault, unless}

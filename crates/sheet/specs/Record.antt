@@ -1,4 +1,4 @@
--- "The sheet": a record is a two-byte body length, a two-byte kind, then the body, the numbers little-endian.
+-- "The sheet": records. Four bytes give a record's body length and its kind, low byte first, and the body follows.
 -- Nothing here knows the kinds: sheets and plans are both read and written so.
 use Prim.Native.Nat.{ℕ, _+_, _-_, _*_, _/_, _%_}
 use mathlib.Core.List.{List, [], _∷_, _++_}

@@ -1,9 +1,9 @@
 -- What a sheet that passes 1 to 8 guarantees. Upper layers rest on these facts and never on the parse itself.
-use Prim.Native.Nat.{ℕ, suc, _+_, _≤_, _<_}
+use Prim.Native.Nat.{ℕ, suc, _≤_, _<_}
 use mathlib.Core.Path.{_≡_}
 use mathlib.Core.Bool.{true, false}
 use lib.ListN.{length, getD}
-use Rattle.common.specs.Bits.{bit, beyond}
+use Rattle.common.specs.Bits.{beyond}
 use Rattle.sheet.specs.Model.{Guard, Move, Model, machineCount, moveCount, modeCount, isLive, moveAt, guardAt}
 
 pub record ValidGuard (m : Model) (v : Move) (g : Guard) : Type 0 where

@@ -15,6 +15,22 @@ pub struct Machine(pub u8);
 // The number of a move.
 pub struct Move(pub u8);
 
+impl Machine {
+    // Modes of a machine at most.
+    pub const MODES: u8 = 8;
+}
+
+impl Move {
+    // Bytes of a move's body before its needs.
+    pub const HEAD: usize = 4;
+
+    // Needs of a move at most, two bytes each.
+    pub const GUARDS: usize = 8;
+
+    // Bytes of a move's body at most.
+    pub const LONGEST: usize = Move::HEAD + 2 * Move::GUARDS;
+}
+
 pub struct Sheet {
     pub machines: usize,
     pub moves: usize,
@@ -35,6 +51,9 @@ impl Sheet {
 
     // Moves at most.
     pub const MOVES: usize = 250;
+
+    // Records at most: all machines, all moves and the end.
+    pub const RECORDS: usize = Sheet::MACHINES + Sheet::MOVES + 1;
 
     // The index of a sheet with nothing in it.
     pub fn empty() -> Self

@@ -1,6 +1,8 @@
 // The causes 2 and 4 to 8 of one whole record, lowest number first.
 use crate::bits::has_beyond;
 use crate::bits::has_mode;
+use crate::index::Machine;
+use crate::index::Move;
 use crate::index::Sheet;
 use crate::record::byte_at;
 use crate::record::wide;
@@ -28,10 +30,13 @@ pub enum Judged {
 pub fn wrong_move_length(n: usize) -> bool
     ensures { λ r. ⌜ r ≡ wrongMoveLength n ⌝ }
 {
-    match n {
-        4 | 6 | 8 | 10 | 12 | 14 | 16 | 18 | 20 => false,
-        _ => true,
+    if n < Move::HEAD {
+        return true;
     }
+    if Move::LONGEST < n {
+        return true;
+    }
+    n % 2 == 1
 }
 
 // 5.
@@ -41,7 +46,7 @@ fn bad_machine(modes: u8, live: u8) -> bool
     if modes == 0 {
         return true;
     }
-    if 8 < modes {
+    if Machine::MODES < modes {
         return true;
     }
     if live == 0 {

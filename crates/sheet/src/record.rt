@@ -1,4 +1,4 @@
-// Records of a file: a two-byte body length, a two-byte kind, then the body. Kinds mean nothing here.
+// Records of a file: body length and kind, two bytes each, and the body behind them. Kinds mean nothing here.
 ghost use mathlib.Core.Path.{_≡_};
 ghost use Prim.Native.Nat.{_<_};
 ghost use Rattle.sheet.specs.Record.{byte, word, recordAt, bodyAt};

@@ -48,14 +48,14 @@ fn machine_step(body: &[u8], at: usize, next: usize, machines: usize, moves: usi
         d (moveOf (now (body .entry))) at r) ⌝ }
 {
     let j = judge_machine(body, machines, moves);
-    match j {
-        Judged::Faulty(cause) => Step::Refused(cause, at),
-        Judged::Fine => Step::NewMachine {
+    let Judged::Faulty(cause) = j else {
+        return Step::NewMachine {
             modes: byte_at(body, 0),
             live: byte_at(body, 1),
             next,
-        },
-    }
+        };
+    };
+    Step::Refused(cause, at)
 }
 
 // A move record at a place, after the machines and moves that are held.
@@ -83,14 +83,14 @@ fn move_step(
     }
     let key = key_of(body);
     let j = judge_move(body, key, machines, moves, tops, live, keys, highest);
-    match j {
-        Judged::Faulty(cause) => Step::Refused(cause, at),
-        Judged::Fine => Step::NewMove {
+    let Judged::Faulty(cause) = j else {
+        return Step::NewMove {
             start: at + 4,
             key,
             next,
-        },
-    }
+        };
+    };
+    Step::Refused(cause, at)
 }
 
 // An end record at a place of a file of some size, after so many machines.
@@ -101,15 +101,13 @@ fn end_step(body: &[u8], at: usize, next: usize, size: usize, machines: usize) -
         d (moveOf (now (body .entry))) at r) ⌝ }
 {
     let j = judge_end(body, machines);
-    match j {
-        Judged::Faulty(cause) => Step::Refused(cause, at),
-        Judged::Fine => {
-            if next < size {
-                return Step::Refused(Cause::TrailingBytes, next);
-            }
-            Step::End
+    let Judged::Faulty(cause) = j else {
+        if next < size {
+            return Step::Refused(Cause::TrailingBytes, next);
         }
-    }
+        return Step::End;
+    };
+    Step::Refused(cause, at)
 }
 
 // The record at a place, after the machines and moves that are held.
@@ -180,7 +178,7 @@ pub fn read(s: &[u8]) -> Reading
     let mut machines: usize = 0;
     let mut moves: usize = 0;
     let mut at: usize = 0;
-    let mut left: usize = 283;
+    let mut left: usize = Sheet::RECORDS;
     while 0 < left {
         left -= 1;
         let t = record_step(

@@ -1,8 +1,8 @@
 use mathlib.Core.Path.{refl, sym, _∙_}
 use native.Mathlib.Omega.{arith}
-use borrow.Author.Needs.{needs}
 use Rattle.sheet.proofs.Judging.{move-long, move-length}
 use Rattle.sheet.proofs.Steps.{step-refused, step-move}
+use borrow.Author.Needs.{needs}
 use Rattle.sheet.proofs.scan.move_step.Statement.{statement}
 use Rattle.sheet.proofs.scan.move_step.Tie as tie
 
@@ -10,18 +10,13 @@ wrong-move-length-requires : tie.Need-wrong-move-length-requires
 wrong-move-length-requires c κs = search needs
 
 returns : tie.Need-returns
-returns c =
-    λ d h. step-refused _ _
-    (move-length (d .model) _ _ (c .before .wrong-move-length .ensures) (c .if1 .taken)) _ d _ refl
+returns c = λ d h. step-refused _ _ (move-length (d .model) _ _ (c .before .wrong-move-length .ensures) (c .if1 .taken)) _ d _ refl
 
 key-of-requires : tie.Need-key-of-requires
 key-of-requires c κs = move-long _ (c .before .wrong-move-length .ensures) (c .if1 .left) .0
 
 judge-move-requires : tie.Need-judge-move-requires
-judge-move-requires c κs = (
-  move-long _ (c .before .before .wrong-move-length .ensures) (c .before .if1 .left) .0,
-  c .before .before .before .before .before .before .before .before .pre .1,
-)
+judge-move-requires c κs = (move-long _ (c .before .before .wrong-move-length .ensures) (c .before .if1 .left) .0, c .before .before .before .before .before .before .before .before .pre .1)
 
 enum-known-j : tie.Need-enum-known-j
 enum-known-j c = search needs
@@ -29,33 +24,20 @@ enum-known-j c = search needs
 enum-told : tie.Need-enum-told
 enum-told c = search needs
 
-add-t17 : tie.Need-add-t17
-add-t17 c = search needs
+add-t16 : tie.Need-add-t16
+add-t16 c = search needs
 
 returns-2 : tie.Need-returns-2
-returns-2 c =
-    λ d h. step-refused _ _
-    (c .before .before .before .judge-move .ensures (d .model)
-    (c .before .before .before .before .before .before .before .before .before .before .before .before .args .at) h
-    (sym (c .before .before .before .before .before .before .wrong-move-length .ensures)
-    ∙ c .before .before .before .before .before .if1 .left)
-    (c .before .before .before .before .key-of .ensures))
-    _ d _ (c .before .j .given .1)
+returns-2 c = λ d h. step-move d _ _ _ (c .before .before .before .before .before .before .before .before .before .before .before .pre .0) h
+    (c .before .before .judge-move .ensures (d .model) (c .before .before .before .before .before .before .before .before .before .before .before .args .at) h
+    (sym (c .before .before .before .before .before .wrong-move-length .ensures) ∙ c .before .before .before .before .if1 .left) (c .before .before .before .key-of .ensures))
+    (c .enum-told .given .1) (omega (arith, c .before .before .before .before .before .before .before .before .before .before .shared-slice-known .given 3)) (c .before .before .before .key-of .ensures)
 
 returns-3 : tie.Need-returns-3
-returns-3 c =
-    λ d h. step-move d _ _ _
-    (c .before .before .before .before .before .before .before .before .before .before .before .pre .0) h
-    (c .before .before .judge-move .ensures (d .model)
-    (c .before .before .before .before .before .before .before .before .before .before .before .args .at) h
-    (sym (c .before .before .before .before .before .wrong-move-length .ensures) ∙ c .before .before .before .before .if1 .left)
-    (c .before .before .before .key-of .ensures))
-    (c .enum-told .given .1)
-    (omega (
-      arith,
-      c .before .before .before .before .before .before .before .before .before .before .shared-slice-known .given 3,
-    ))
-    (c .before .before .before .key-of .ensures)
+returns-3 c = λ d h. step-refused _ _
+    (c .before .before .before .judge-move .ensures (d .model) (c .before .before .before .before .before .before .before .before .before .before .before .before .args .at) h
+    (sym (c .before .before .before .before .before .before .wrong-move-length .ensures) ∙ c .before .before .before .before .before .if1 .left) (c .before .before .before .before .key-of .ensures))
+    _ d _ (c .before .j .given .1)
 
 pub move-step-spec : {M : Type 1} → statement M
 move-step-spec =
@@ -67,6 +49,6 @@ move-step-spec =
     judge-move-requires
     enum-known-j
     enum-told
-    add-t17
+    add-t16
     returns-2
     returns-3)
