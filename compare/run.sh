@@ -50,7 +50,26 @@ default_is_the_stove() {
     "$work/panel" | diff <(head -n 1 examples/panel.expect) -
 }
 
+# Runs show in a folder of its own and compares what it prints.
+show_says() {
+    (cd "$1" && "$root/target/bin/show") | diff <(echo "$2") -
+}
+
+# A whole record of 60,000 bytes and unknown kind, one that says a byte more than
+# there is, and no file at all.
+long_files() {
+    mkdir -p "$work/long" "$work/cut" "$work/none"
+    { printf '\x60\xea\x09\x00'; head -c 60000 /dev/zero; } >"$work/long/sheet.bin"
+    { printf '\x61\xea\x09\x00'; head -c 60000 /dev/zero; } >"$work/cut/sheet.bin"
+}
+
+root=$PWD
+long_files
 check "static library" rt staticlib panel
+check "show" rt check show
+check "show reads a long file whole" show_says "$work/long" "refused 2 0"
+check "show sees that a long file is cut" show_says "$work/cut" "refused 1 0"
+check "show takes a missing file for an empty one" show_says "$work/none" "refused 1 0"
 cargo_tests
 check "C example compiles without a warning" gcc -std=c11 -O2 -Wall -Wextra -Werror \
     -Iinclude examples/panel.c -Ltarget/staticlib -lpanel -o "$work/panel"
