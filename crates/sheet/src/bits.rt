@@ -1,9 +1,6 @@
 // A byte as a set of modes: bit m, worth 2 ^ m, stands for mode m.
-use crate::record::wide;
 ghost use mathlib.Core.Path.{_≡_};
-ghost use Prim.Native.Nat.{_≤_};
 ghost use Rattle.common.specs.Bits.{bit, beyond};
-ghost use Rattle.sheet.specs.Held.{topOf};
 
 // Whether a mode is in the set.
 pub fn has_mode(mask: u8, mode: u8) -> bool
@@ -23,12 +20,4 @@ pub fn has_beyond(n: u8, mask: u8) -> bool
         return false;
     }
     mask >> n != 0
-}
-
-// The set of the first n modes.
-pub fn first_modes(n: u8) -> u8
-    requires { ⌜ n ≤ 8 ⌝ }
-    ensures { λ r. ⌜ r ≡ topOf n ⌝ }
-{
-    ((1usize << wide(n)) - 1) as u8
 }

@@ -18,7 +18,8 @@ ghost use Rattle.sheet.specs.Record.{byte};
 ghost use Rattle.sheet.specs.Model.{Model, machineCount, moveCount, moveOf};
 ghost use Rattle.sheet.specs.Faults.{wrongMoveLength, badMachine};
 ghost use Rattle.sheet.specs.Faults.{machineFaults, moveFaults, endFaults};
-ghost use Rattle.sheet.specs.Held.{fine, judgedOf, deadMove, wrongGuard, wrongGuards, keyOf, Below, Held};
+ghost use Rattle.sheet.specs.Held.{fine, judgedOf, topOf, deadMove, wrongGuard, wrongGuards};
+ghost use Rattle.sheet.specs.Held.{keyOf, Below, Held};
 
 // What judging a record finds.
 pub enum Judged {
@@ -117,6 +118,14 @@ fn bad_guards(body: &[u8], tops: &[u8]) -> bool
         n += 1;
     }
     false
+}
+
+// The set of the first n modes.
+pub fn first_modes(n: u8) -> u8
+    requires { ⌜ n ≤ 8 ⌝ }
+    ensures { λ r. ⌜ r ≡ topOf n ⌝ }
+{
+    ((1usize << wide(n)) - 1) as u8
 }
 
 // A move's machine, from mode and command as one number.

@@ -1,9 +1,9 @@
 // Reading a sheet front to back.
-use crate::bits::first_modes;
 use crate::index::Reading;
 use crate::index::Sheet;
 use crate::judge::Judged;
 use crate::judge::command_of;
+use crate::judge::first_modes;
 use crate::judge::judge_end;
 use crate::judge::judge_machine;
 use crate::judge::judge_move;

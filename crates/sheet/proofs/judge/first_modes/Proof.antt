@@ -3,8 +3,8 @@ use borrow.Author.Needs.{needs}
 use lib.Pow.{pow-pos, pow-mono}
 use Rattle.sheet.specs.Held.{topOf}
 use Rattle.sheet.proofs.Modes.{shift-one}
-use Rattle.sheet.proofs.bits.first_modes.Statement.{statement}
-use Rattle.sheet.proofs.bits.first_modes.Tie as tie
+use Rattle.sheet.proofs.judge.first_modes.Statement.{statement}
+use Rattle.sheet.proofs.judge.first_modes.Tie as tie
 
 wide-requires : tie.Need-wide-requires
 wide-requires c κs = search needs
