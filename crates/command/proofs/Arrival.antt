@@ -11,7 +11,7 @@ use Rattle.sheet.specs.Parse.{Parsed, parse}
 use Rattle.plan.specs.Reading.{boundIn}
 use Rattle.plan.specs.Laws.{PlanLaws}
 use Rattle.command.specs.Next.{goalRefusals}
-use Rattle.command.specs.Run.{Call, ask, apply, Situation, begins, afterAll, Run}
+use Rattle.command.specs.Run.{Lent, Call, ask, apply, Situation, begins, afterAll, Run}
 use Rattle.sheet.proofs.Parsed.{parse-valid}
 use Rattle.plan.proofs.Planned.{planned-lawful}
 use Rattle.command.specs.Arrival.{Arrival, ArrivalOfLaws, AsWishedFrom, Reached, Asked, Moved, Promise}
@@ -22,76 +22,76 @@ use Rattle.command.proofs.Answers.{Ground}
 use Rattle.command.proofs.Calls
 use Rattle.command.proofs.Calls.{Keeps, pending-some, afterAll-append}
 
-module _ {sheet plan goal : List ℕ} {d : Parsed} {Usable : ℕ → Type 0} {longest cost : ℕ → ℕ}
-    (ground : Ground sheet plan goal d Usable longest cost) (state : List ℕ)
-    (passes : clear (goalRefusals (d .model) plan state goal) ≡ true) (calls : List Call)
-    (run : Run sheet plan goal (begins state) calls) where
+module _ {lent : Lent} {d : Parsed} {Usable : ℕ → Type 0} {longest cost : ℕ → ℕ}
+    (ground : Ground lent d Usable longest cost) (state : List ℕ)
+    (passes : clear (goalRefusals (d .model) (lent .plan) state (lent .goal)) ≡ true) (calls : List Call)
+    (run : Run lent (begins state) calls) where
   -- the situation after some calls from the beginning
   abbrev now : List Call → Situation
-  now before = afterAll sheet plan goal (begins state) before
+  now before = afterAll lent (begins state) before
 
-  start : Kept (d .model) plan goal Usable cost (begins state)
+  start : Kept (d .model) lent Usable cost (begins state)
   start = Answers.kept-begins ground state passes
 
   through : (before later : List Call) → calls ≡ before ++ later
-      → Keeps (d .model) sheet plan goal Usable cost (begins state) (now before)
-      × Run sheet plan goal (now before) later
+      → Keeps (d .model) lent Usable cost (begins state) (now before)
+      × Run lent (now before) later
   through before later e =
       Calls.keeps-all ground start before later
-      (subst (Run sheet plan goal (begins state)) e run)
+      (subst (Run lent (begins state)) e run)
 
-  asking : (before later : List Call) → calls ≡ before ++ (ask ∷ later) → Asked sheet plan goal (d .model) (now before)
+  asking : (before later : List Call) → calls ≡ before ++ (ask ∷ later) → Asked lent (d .model) (now before)
   asking before later e =
       Answers.asked ground (through before (ask ∷ later) e .0 .kept)
 
   applying : (before later : List Call) → calls ≡ before ++ (apply ∷ later)
-      → Moved sheet plan goal (d .model) (now before)
+      → Moved lent (d .model) (now before)
   applying before later e =
       let t = through before (apply ∷ later) e in
       let p = pending-some (now before .pending) (t .1 .0) in
       Answers.moved ground (t .0 .kept) (p .0) (p .1) (p .2)
 
-  within : now calls .applied ≤ boundIn (d .model) plan
+  within : now calls .applied ≤ boundIn (d .model) (lent .plan)
   within = omega (arith, through calls [] (sym (append-nil calls)) .0 .kept .within)
 
-  arrives : (before later : List Call) → calls ≡ before ++ later → boundIn (d .model) plan ≤ now before .applied
-      → Reached sheet plan goal (d .model) (now before .state)
+  arrives : (before later : List Call) → calls ≡ before ++ later → boundIn (d .model) (lent .plan) ≤ now before .applied
+      → Reached lent (d .model) (now before .state)
   arrives before later e h = Answers.bound-reached ground (through before later e .0 .kept) h
 
   stays : (before between later : List Call) → calls ≡ before ++ (between ++ later) → (g : ℕ)
-      → AsWishedFrom sheet plan goal (d .model) (now before .state) g
-      → AsWishedFrom sheet plan goal (d .model) (now (before ++ between) .state) g
+      → AsWishedFrom lent (d .model) (now before .state) g
+      → AsWishedFrom lent (d .model) (now (before ++ between) .state) g
   stays before between later e g w =
       let t = through before (between ++ later) e in
       let r = Calls.keeps-all ground (t .0 .kept) between later (t .1) in
-      subst (λ s. AsWishedFrom sheet plan goal (d .model) (s .state) g)
-      (sym (afterAll-append sheet plan goal (begins state) before between)) (r .0 .wished g w)
+      subst (λ s. AsWishedFrom lent (d .model) (s .state) g)
+      (sym (afterAll-append lent (begins state) before between)) (r .0 .wished g w)
 
-  pub promised : Promise sheet plan goal (d .model) (begins state) calls
+  pub promised : Promise lent (d .model) (begins state) calls
   promised =
       record { asking = asking; applying = applying; within = within; arrives = arrives; stays = stays }
 
 pub arrival-of-laws :
-    (sheet plan state goal : List ℕ) (d : Parsed) (Usable : ℕ → Type 0) (longest cost : ℕ → ℕ)
-    → parse sheet ≡ given d → Valid (d .model)
-    → PlanLaws (d .model) plan Usable longest cost
-    → clear (goalRefusals (d .model) plan state goal) ≡ true
-    → (calls : List Call) → Run sheet plan goal (begins state) calls
-    → Promise sheet plan goal (d .model) (begins state) calls
-arrival-of-laws sheet plan state goal d Usable longest cost parsed valid laws passes calls run =
+    (lent : Lent) (state : List ℕ) (d : Parsed) (Usable : ℕ → Type 0) (longest cost : ℕ → ℕ)
+    → parse (lent .sheet) ≡ given d → Valid (d .model)
+    → PlanLaws (d .model) (lent .plan) Usable longest cost
+    → clear (goalRefusals (d .model) (lent .plan) state (lent .goal)) ≡ true
+    → (calls : List Call) → Run lent (begins state) calls
+    → Promise lent (d .model) (begins state) calls
+arrival-of-laws lent state d Usable longest cost parsed valid laws passes calls run =
     promised (record {
       parsed = parsed;
       valid = valid;
       laws = laws;
-      fine = refusals-parts (d .model) plan state goal passes .1;
+      fine = refusals-parts (d .model) (lent .plan) state (lent .goal) passes .1;
     }) state passes calls run
 
 -- demand 3, of the plan that planning wrote
 pub arrival : Arrival
-arrival sheet plan state goal buffer scratch d calls parsed planned passes run =
-    arrival-of-laws sheet plan state goal d _ _ _ parsed (parse-valid sheet parsed)
-    (planned-lawful sheet plan buffer scratch d parsed planned) passes calls run
+arrival lent state buffer scratch d calls parsed planned passes run =
+    arrival-of-laws lent state d _ _ _ parsed (parse-valid (lent .sheet) parsed)
+    (planned-lawful (lent .sheet) (lent .plan) buffer scratch d parsed planned) passes calls run
 
 pub arrival-by-laws : ArrivalOfLaws
-arrival-by-laws sheet plan state goal d usable longest cost calls parsed laws passes run =
-    arrival-of-laws sheet plan state goal d _ longest cost parsed (parse-valid sheet parsed) laws passes calls run
+arrival-by-laws lent state d usable longest cost calls parsed laws passes run =
+    arrival-of-laws lent state d _ longest cost parsed (parse-valid (lent .sheet) parsed) laws passes calls run

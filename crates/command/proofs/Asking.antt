@@ -1,12 +1,13 @@
--- What next command replies where nothing is refused: what fulfilling the goal replies.
+-- What next command replies: 15 to a plan out of shape, else by the causes 13, 14 and 16 to 18; and where nothing is
+-- refused, what fulfilling the goal replies.
 -- Assumes nothing.
 use Prim.Native.Nat.{ℕ}
 use mathlib.Core.Path.{_≡_, sym, _∙_}
 use mathlib.Core.List.{List, _++_}
-use mathlib.Core.Bool.{true}
-use Rattle.common.specs.Reply.{given, clear, unless, andThen}
-use Rattle.common.proofs.Bools.{and-intro, and-left, and-right, not-of-true}
-use Rattle.common.proofs.Reply.{unless-clear, unless-later}
+use mathlib.Core.Bool.{true, false}
+use Rattle.common.specs.Reply.{given, refused, clear, unless, andThen}
+use Rattle.common.proofs.Bools.{and-intro, and-left, and-right, not-of-true, not-of-false}
+use Rattle.common.proofs.Reply.{unless-clear, unless-first, unless-later}
 use Rattle.common.proofs.Clear.{clear-each, clear-append, unless-append-clear}
 use Rattle.sheet.specs.Model.{Model}
 use Rattle.sheet.specs.Parse.{Parsed, parse}
@@ -31,6 +32,19 @@ module _ (m : Model) (plan state goal : List ℕ) where
         and-right (clear (stateFaults m state ++ goalFaults m goal)) _ both,
       )
 
+-- a call whose sheet passes 1 to 8
+module _ (sheet plan state goal : List ℕ) (d : Parsed) (parses : parse sheet ≡ given d) where
+  pub misshapen-reply : wellShaped (d .model) plan ≡ false → nextReply sheet plan state goal ≡ refused 15 0
+  unfolding nextReply misshapen andThen
+  misshapen-reply f = rw parses (unless-first _ _ _ (not-of-false f))
+
+  pub shaped-reply : wellShaped (d .model) plan ≡ true
+      → nextReply sheet plan state goal
+      ≡ unless (goalRefusals (d .model) plan state goal)
+      (fulfil (d .model) plan state (goalMasks (d .model) goal) (groupCount (groupsIn (d .model) plan)))
+  unfolding nextReply misshapen andThen
+  shaped-reply t = rw parses (unless-later _ _ _ (not-of-true t))
+
 -- a call that passes 1 to 8, 15, 13 and 14
 module _ (sheet plan state goal : List ℕ) (d : Parsed) (parses : parse sheet ≡ given d)
     (shaped : wellShaped (d .model) plan ≡ true)
@@ -40,13 +54,12 @@ module _ (sheet plan state goal : List ℕ) (d : Parsed) (parses : parse sheet �
   pub next-reply : nextReply sheet plan state goal
       ≡ unless (attainFaults (d .model) plan state (goalMasks (d .model) goal))
       (fulfil (d .model) plan state (goalMasks (d .model) goal) (groupCount (groupsIn (d .model) plan)))
-  unfolding nextReply goalRefusals misshapen andThen
+  unfolding goalRefusals
   next-reply =
       let before = stateFaults (d .model) state ++ goalFaults (d .model) goal in
-      rw parses
-      (unless-later _ _ _ (not-of-true shaped)
+      shaped-reply sheet plan state goal d parses shaped
       ∙ unless-append-clear before (attainFaults (d .model) plan state (goalMasks (d .model) goal)) _
-      (clear-append (stateFaults (d .model) state) (goalFaults (d .model) goal) ∙ and-intro state-good goal-good))
+      (clear-append (stateFaults (d .model) state) (goalFaults (d .model) goal) ∙ and-intro state-good goal-good)
 
   -- and where they do not apply, fulfilling the goal replies
   pub next-fulfils : clear (attainFaults (d .model) plan state (goalMasks (d .model) goal)) ≡ true

@@ -4,13 +4,13 @@ use Prim.Native.Nat.{ℕ, suc}
 use mathlib.Core.Path.{_≡_, refl, sym, ap, subst, _∙_}
 use mathlib.Core.List.{List, [], _∷_, _++_}
 use native.Mathlib.Omega.{arith}
-use lib.ListN.{set}
 use Rattle.common.specs.Reply.{Reply, given, refused}
 use Rattle.sheet.specs.Model.{Model, moveAt}
 use Rattle.sheet.specs.Parse.{Parsed}
-use Rattle.command.specs.Next.{Next, done, command, nextReply}
+use Rattle.command.specs.State.{withMode}
+use Rattle.command.specs.Next.{Next, done, command}
 use Rattle.command.specs.Apply.{Applied, applyReply, stateAfter}
-use Rattle.command.specs.Run.{Call, ask, apply, refusedNext, refusedApply, Pending, none, some, Situation}
+use Rattle.command.specs.Run.{Lent, askReply, Call, ask, apply, refusedNext, refusedApply, Pending, none, some, Situation}
 use Rattle.command.specs.Run.{pendingOf, IsRefused, IsPending, appliedBy, after, afterAll, Legal, Run}
 use Rattle.command.specs.Arrival.{AsWishedFrom}
 use Rattle.command.proofs.Kept
@@ -33,59 +33,59 @@ refused-leaves : (r : Reply Applied) (state : List ℕ) → IsRefused r → stat
 refused-leaves (given a) state h = absurd h
 refused-leaves (refused n p) state h = refl
 
-module _ (sheet plan goal : List ℕ) (s : Situation) where
-  after-refused : (sheet′ : List ℕ) (i c : ℕ) → IsRefused (applyReply sheet′ (s .state) i c)
-      → after sheet plan goal s (refusedApply sheet′ i c) ≡ s
+module _ (lent : Lent) (s : Situation) where
+  after-refused : (sheet : List ℕ) (i c : ℕ) → IsRefused (applyReply sheet (s .state) i c)
+      → after lent s (refusedApply sheet i c) ≡ s
   unfolding after
-  after-refused sheet′ i c h =
+  after-refused sheet i c h =
       ap (λ x. record { state = x; pending = s .pending; applied = s .applied })
-      (refused-leaves (applyReply sheet′ (s .state) i c) (s .state) h)
+      (refused-leaves (applyReply sheet (s .state) i c) (s .state) h)
 
   after-apply : (i c v : ℕ) (state : List ℕ) → s .pending ≡ some i c
-      → applyReply sheet (s .state) i c ≡ given (record { move = v; state = state })
-      → after sheet plan goal s apply ≡ record { state = state; pending = none; applied = suc (s .applied) }
+      → applyReply (lent .sheet) (s .state) i c ≡ given (record { move = v; state = state })
+      → after lent s apply ≡ record { state = state; pending = none; applied = suc (s .applied) }
   unfolding after
   after-apply i c v state e r =
-      ap (appliedBy sheet plan goal s) e
+      ap (appliedBy lent s) e
       ∙ ap (λ x. record { state = stateAfter x (s .state); pending = none; applied = suc (s .applied) }) r
 
-pub afterAll-append : (sheet plan goal : List ℕ) (s : Situation) (xs ys : List Call)
-    → afterAll sheet plan goal s (xs ++ ys) ≡ afterAll sheet plan goal (afterAll sheet plan goal s xs) ys
+pub afterAll-append : (lent : Lent) (s : Situation) (xs ys : List Call)
+    → afterAll lent s (xs ++ ys) ≡ afterAll lent (afterAll lent s xs) ys
 unfolding afterAll
-afterAll-append sheet plan goal s [] ys = refl
-afterAll-append sheet plan goal s (c ∷ xs) ys = afterAll-append sheet plan goal (after sheet plan goal s c) xs ys
+afterAll-append lent s [] ys = refl
+afterAll-append lent s (c ∷ xs) ys = afterAll-append lent (after lent s c) xs ys
 
 -- from one situation to another: what a run keeps is kept, and all groups from g upward that were as wished are so
-module _ (m : Model) (sheet plan goal : List ℕ) (Usable : ℕ → Type 0) (cost : ℕ → ℕ) where
+module _ (m : Model) (lent : Lent) (Usable : ℕ → Type 0) (cost : ℕ → ℕ) where
   pub record Keeps (s t : Situation) : Type 0 where
-    pub kept : Kept m plan goal Usable cost t
-    pub wished : (g : ℕ) → AsWishedFrom sheet plan goal m (s .state) g → AsWishedFrom sheet plan goal m (t .state) g
+    pub kept : Kept m lent Usable cost t
+    pub wished : (g : ℕ) → AsWishedFrom lent m (s .state) g → AsWishedFrom lent m (t .state) g
 
-module _ {sheet plan goal : List ℕ} {d : Parsed} {Usable : ℕ → Type 0} {longest cost : ℕ → ℕ}
-    (ground : Ground sheet plan goal d Usable longest cost) where
+module _ {lent : Lent} {d : Parsed} {Usable : ℕ → Type 0} {longest cost : ℕ → ℕ}
+    (ground : Ground lent d Usable longest cost) where
   abbrev KeepsTo : Situation → Situation → Type 0
-  KeepsTo = Keeps (d .model) sheet plan goal Usable cost
+  KeepsTo = Keeps (d .model) lent Usable cost
 
-  apply-moves : (s : Situation) → Kept (d .model) plan goal Usable cost s → (i c : ℕ) → s .pending ≡ some i c
-      → (p : Pends (d .model) plan goal Usable (s .state) i c)
-      → after sheet plan goal s apply ≡ movedBy (d .model) s (p .move)
+  apply-moves : (s : Situation) → Kept (d .model) lent Usable cost s → (i c : ℕ) → s .pending ≡ some i c
+      → (p : Pends (d .model) lent Usable (s .state) i c)
+      → after lent s apply ≡ movedBy (d .model) s (p .move)
   apply-moves s kept i c e p =
       let to = moveAt (d .model) (p .move) .to in
-      after-apply sheet plan goal s i c _ _ e (Answers.applies-pending ground kept p)
-      ∙ ap (λ x. record { state = set (s .state) x to; pending = none; applied = suc (s .applied) }) (p .machine-is)
+      after-apply lent s i c _ _ e (Answers.applies-pending ground kept p)
+      ∙ ap (λ x. record { state = withMode (s .state) x to; pending = none; applied = suc (s .applied) }) (p .machine-is)
 
-  keeps-apply : (s : Situation) → Kept (d .model) plan goal Usable cost s → (i c : ℕ) → s .pending ≡ some i c
-      → KeepsTo s (after sheet plan goal s apply)
+  keeps-apply : (s : Situation) → Kept (d .model) lent Usable cost s → (i c : ℕ) → s .pending ≡ some i c
+      → KeepsTo s (after lent s apply)
   keeps-apply s kept i c e =
       let p = kept .pends i c e in
       subst (KeepsTo s) (sym (apply-moves s kept i c e p))
       (record {
         kept = Kept.kept-moved (ground .valid) (ground .laws) kept (p .sent);
-        wished = Kept.stays-wished (ground .valid) (ground .laws) kept (p .sent) sheet;
+        wished = Kept.stays-wished (ground .valid) (ground .laws) kept (p .sent);
       })
 
-  keeps-call : (s : Situation) → Kept (d .model) plan goal Usable cost s → (c : Call) → Legal sheet plan goal s c
-      → KeepsTo s (after sheet plan goal s c)
+  keeps-call : (s : Situation) → Kept (d .model) lent Usable cost s → (c : Call) → Legal lent s c
+      → KeepsTo s (after lent s c)
   unfolding after
   keeps-call s kept ask h =
       record {
@@ -95,21 +95,21 @@ module _ {sheet plan goal : List ℕ} {d : Parsed} {Usable : ℕ → Type 0} {lo
               covered = kept .covered;
               within = kept .within;
               pends = λ i c e. Answers.replied ground kept i c
-                  (pending-replied (nextReply sheet plan (s .state) goal) e);
+                  (pending-replied (askReply lent (s .state)) e);
             };
         wished = λ g w. w;
       }
   keeps-call s kept apply h =
       let p = pending-some (s .pending) h in
       keeps-apply s kept (p .0) (p .1) (p .2)
-  keeps-call s kept (refusedNext sheet′ plan′ goal′) h = record { kept = kept; wished = λ g w. w }
-  keeps-call s kept (refusedApply sheet′ i c) h =
-      subst (KeepsTo s) (sym (after-refused sheet plan goal s sheet′ i c h)) (record { kept = kept; wished = λ g w. w })
+  keeps-call s kept (refusedNext other) h = record { kept = kept; wished = λ g w. w }
+  keeps-call s kept (refusedApply sheet i c) h =
+      subst (KeepsTo s) (sym (after-refused lent s sheet i c h)) (record { kept = kept; wished = λ g w. w })
 
   -- through the first calls of a run; the others are a run from there
-  pub keeps-all : {s : Situation} → Kept (d .model) plan goal Usable cost s → (before later : List Call)
-      → Run sheet plan goal s (before ++ later)
-      → KeepsTo s (afterAll sheet plan goal s before) × Run sheet plan goal (afterAll sheet plan goal s before) later
+  pub keeps-all : {s : Situation} → Kept (d .model) lent Usable cost s → (before later : List Call)
+      → Run lent s (before ++ later)
+      → KeepsTo s (afterAll lent s before) × Run lent (afterAll lent s before) later
   unfolding afterAll
   keeps-all kept [] later run = (record { kept = kept; wished = λ g w. w }, run)
   keeps-all {s} kept (c ∷ before) later run =

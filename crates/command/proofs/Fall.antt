@@ -14,7 +14,7 @@ use Rattle.common.proofs.SumsBelow.{sumBelow, sumBelow-up, sumBelow-mem, sumBel
 use Rattle.sheet.specs.Model.{Model, moveAt}
 use Rattle.sheet.specs.Valid.{Valid}
 use Rattle.plan.specs.Groups.{groupCount, movesOf, namedOutside}
-use Rattle.plan.specs.Laws.{PlanLaws}
+use Rattle.plan.specs.Laws.{counted, TableLaws, RouteLaws, CostLaws}
 use Rattle.command.specs.Goal.{Masks, guardMasks, met, allowed}
 use Rattle.command.specs.Attainable.{groups}
 use Rattle.command.specs.Covered.{Covered}
@@ -26,12 +26,13 @@ use Rattle.command.proofs.Sends
 use Rattle.command.proofs.Heading.{Heading}
 use Rattle.command.proofs.Sends.{AllMet, covered-below}
 use Rattle.plan.proofs.Named.{named-of-move}
+use Rattle.plan.proofs.Counted.{usable-counts}
 use Rattle.plan.specs.Reading.{groupsIn}
 
 module _ (m : Model) (plan : List ℕ) where
-  -- the outside groups that the moves of group k name
+  -- the outside groups that the moves of group k name, those that count
   abbrev pub named : ℕ → List ℕ
-  named k = namedOutside m (groups m plan) k (movesOf m (groups m plan) k)
+  named k = namedOutside m (groups m plan) k (counted m plan k)
 
   -- of the groups below g, a goal asks nothing of those outside its scope
   abbrev pub Scoped : Masks → List ℕ → ℕ → Type 0
@@ -100,52 +101,59 @@ pub fall-at-most : (m : Model) (plan : List ℕ) (cost : ℕ → ℕ) (Usable : 
 fall-at-most m plan cost Usable state masks scope k l u h needs less =
     omega (arith, fall-heading m plan cost Usable state masks scope k u h, steps-fit (h .later) _ _ needs less)
 
-module _ {m : Model} {plan : List ℕ} {Usable : ℕ → Type 0} {longest cost : ℕ → ℕ} (valid : Valid m)
-    (laws : PlanLaws m plan Usable longest cost) where
-  pub needs-scoped : (k v : ℕ) → List·Memᴰ v (movesOf m (groups m plan) k)
+module _ {m : Model} {plan : List ℕ} {Usable : ℕ → Type 0} {longest : ℕ → ℕ} (valid : Valid m)
+    (tables : TableLaws m plan Usable longest) where
+  pub needs-scoped : (k v : ℕ) → List·Memᴰ v (movesOf m (groups m plan) k) → Usable v
       → Scoped m plan (guardMasks m (groups m plan) k (moveAt m v)) (named m plan k) k
-  needs-scoped k v member a q h n =
-      Facts.needs-free m valid plan (laws .shaped) k v member a q
-      (λ i. n (named-of-move m (groupsIn m plan) k member i))
+  needs-scoped k v member usable a q h n =
+      Facts.needs-free m valid plan (tables .shaped) k v member a q
+      (λ i. n (named-of-move m (groupsIn m plan) k (usable-counts m plan k Usable member usable) i))
 
-  cost-outside : (k : ℕ) → k < groupCount (groups m plan) → cost k ≡ longest k * (1 + outsideCost m plan cost k)
-  unfolding outsideCost
-  cost-outside k h = laws .cost-is k h
+  unmet-scoped : {state : List ℕ} → Sound m state → (masks : Masks) (scope : List ℕ) (k : ℕ)
+      → Scoped m plan masks scope (suc k) → met (groups m plan) masks state k ≡ false → List·Memᴰ k scope
+  unmet-scoped {state} sound masks scope k s u =
+      ⊎-elim (λ i. i)
+      (λ n. absurd (true-false (Facts.met-allowed m valid plan (tables .shaped) state sound masks k
+      ∙ s k _ (omega arith) n) u))
+      (mem-or-not k scope)
 
-  module _ {state : List ℕ} (sound : Sound m state) where
-    unmet-scoped : (masks : Masks) (scope : List ℕ) (k : ℕ) → Scoped m plan masks scope (suc k)
-        → met (groups m plan) masks state k ≡ false → List·Memᴰ k scope
-    unmet-scoped masks scope k s u =
-        ⊎-elim (λ i. i)
-        (λ n. absurd (true-false (Facts.met-allowed m valid plan (laws .shaped) state sound masks k
-        ∙ s k _ (omega arith) n) u))
-        (mem-or-not k scope)
+cost-outside : {m : Model} {plan : List ℕ} {longest cost : ℕ → ℕ} → CostLaws m plan (counted m plan) longest cost → (k : ℕ)
+    → k < groupCount (groups m plan) → cost k ≡ longest k * (1 + outsideCost m plan cost k)
+unfolding outsideCost
+cost-outside costs k h = costs .cost-is k h
 
-    heading-bounded : (masks : Masks) (scope : List ℕ) (k : ℕ) → k < groupCount (groups m plan)
-        → Heading m plan Usable state masks k → met (groups m plan) masks state k ≡ false → List·Memᴰ k scope
-        → fall m plan cost state (needsOf m plan state masks k) (named m plan k) k ≤ outsideCost m plan cost k
-        → fall m plan cost state masks scope (suc k) ≤ sumBelow cost (suc k) scope
-    heading-bounded masks scope k le h u i needs =
-        let here = Facts.present-below m valid plan (laws .shaped) state sound k in
-        let far = laws .at-most-longest k _ _ le here (h .end-below) (omega (arith, h .far)) in
-        let l : h .later < longest k = omega (arith, h .far) in
-        let most = fall-at-most m plan cost Usable state masks scope k (longest k) u h needs l in
-        omega (arith, cost-outside k le, sumBelow-mem cost i)
+module _ {m : Model} {plan : List ℕ} {Usable : ℕ → Type 0} {longest cost : ℕ → ℕ} (valid : Valid m)
+    (tables : TableLaws m plan Usable longest) (costs : CostLaws m plan (counted m plan) longest cost)
+    {state : List ℕ} (sound : Sound m state) where
+  heading-bounded : (masks : Masks) (scope : List ℕ) (k : ℕ) → k < groupCount (groups m plan)
+      → Heading m plan Usable state masks k → met (groups m plan) masks state k ≡ false → List·Memᴰ k scope
+      → fall m plan cost state (needsOf m plan state masks k) (named m plan k) k ≤ outsideCost m plan cost k
+      → fall m plan cost state masks scope (suc k) ≤ sumBelow cost (suc k) scope
+  heading-bounded masks scope k le h u i needs =
+      let here = Facts.present-below m valid plan (tables .shaped) state sound k in
+      let far = tables .at-most-longest k _ _ le here (h .end-below) (omega (arith, h .far)) in
+      let l : h .later < longest k = omega (arith, h .far) in
+      let most = fall-at-most m plan cost Usable state masks scope k (longest k) u h needs l in
+      omega (arith, cost-outside costs k le, sumBelow-mem cost i)
 
-    pub fall-bounded : (g : ℕ) → g ≤ groupCount (groups m plan) → (masks : Masks) (scope : List ℕ)
-        → Scoped m plan masks scope g → Covered m plan masks state g
-        → fall m plan cost state masks scope g ≤ sumBelow cost g scope
-    fall-bounded zero le masks scope s c = omega (arith, fall-none m plan cost state masks scope)
-    fall-bounded (suc k) le masks scope s c =
-        by-cases (met (groups m plan) masks state k)
-        (λ e. omega (
-          arith,
-          fall-met m plan cost state masks scope k e,
-          sumBelow-up cost k scope,
-          fall-bounded k (omega arith) masks scope (λ a q h. s a q (omega arith)) (covered-below c),
-        ))
-        (λ u.
-        let h = Sends.covered-heading valid laws sound masks k le u c in
-        let covered = Sends.heading-needs-covered valid laws sound masks k h u c in
-        let needs = fall-bounded k (omega arith) _ (named m plan k) (needs-scoped k _ (h .member)) covered in
-        heading-bounded masks scope k le h u (unmet-scoped masks scope k s u) (le-trans needs (named-cost m plan cost k)))
+module _ {m : Model} {plan : List ℕ} {Usable : ℕ → Type 0} {longest cost : ℕ → ℕ} (valid : Valid m)
+    (tables : TableLaws m plan Usable longest) (routes : RouteLaws m plan Usable) (costs : CostLaws m plan (counted m plan) longest cost)
+    {state : List ℕ} (sound : Sound m state) where
+  pub fall-bounded : (g : ℕ) → g ≤ groupCount (groups m plan) → (masks : Masks) (scope : List ℕ)
+      → Scoped m plan masks scope g → Covered m plan masks state g
+      → fall m plan cost state masks scope g ≤ sumBelow cost g scope
+  fall-bounded zero le masks scope s c = omega (arith, fall-none m plan cost state masks scope)
+  fall-bounded (suc k) le masks scope s c =
+      by-cases (met (groups m plan) masks state k)
+      (λ e. omega (
+        arith,
+        fall-met m plan cost state masks scope k e,
+        sumBelow-up cost k scope,
+        fall-bounded k (omega arith) masks scope (λ a q h. s a q (omega arith)) (covered-below c),
+      ))
+      (λ u.
+      let h = Sends.covered-heading valid tables sound masks k le u c in
+      let covered = Sends.heading-needs-covered valid tables routes sound masks k h u c in
+      let needs = fall-bounded k (omega arith) _ (named m plan k) (needs-scoped valid tables k _ (h .member) (h .usable)) covered in
+      heading-bounded valid tables costs sound masks scope k le h u (unmet-scoped valid tables sound masks scope k s u)
+      (le-trans needs (named-cost m plan cost k)))

@@ -16,7 +16,7 @@ use Rattle.plan.specs.Modes.{size}
 use Rattle.plan.specs.Usable.{target}
 use Rattle.plan.specs.Table.{Entry}
 use Rattle.plan.specs.Reading.{entryAt}
-use Rattle.plan.specs.Laws.{PlanLaws}
+use Rattle.plan.specs.Laws.{counted, TableLaws, RouteLaws, CostLaws}
 use Rattle.command.specs.Goal.{Masks, guardMasks, met, allowed}
 use Rattle.command.specs.Attainable.{groups, present}
 use Rattle.command.specs.Covered.{Covered}
@@ -29,7 +29,7 @@ use Rattle.command.proofs.Heading
 use Rattle.command.proofs.Heading.{Heading}
 use Rattle.command.proofs.Sends
 use Rattle.command.proofs.Sends.{Sends, lower, own, prepares, covered-below}
-use Rattle.command.proofs.Moving.{Moves, sends-below, sends-acting}
+use Rattle.command.proofs.Moving.{MovesBy, sends-below}
 use Rattle.command.proofs.Stays
 use Rattle.command.proofs.Fall.{named, Scoped, outsideCost, fall, fall-met, fall-unmet, fall-heading}
 use Rattle.command.proofs.Fall.{named-cost, fall-at-most, needs-scoped, fall-bounded}
@@ -61,7 +61,8 @@ module _ (m : Model) (plan state state′ : List ℕ) (masks : Masks) (k : ℕ)
       needs e = fall m plan cost state′ (guardMasks m (groups m plan) k (moveAt m (e .move))) (named m plan k) k
 
 module _ {m : Model} {plan : List ℕ} {Usable : ℕ → Type 0} {longest cost : ℕ → ℕ} (valid : Valid m)
-    (laws : PlanLaws m plan Usable longest cost) {state : List ℕ} (sound : Sound m state) (state′ : List ℕ) where
+    (tables : TableLaws m plan Usable longest) (routes : RouteLaws m plan Usable) (costs : CostLaws m plan (counted m plan) longest cost)
+    {state : List ℕ} (sound : Sound m state) (state′ : List ℕ) where
   abbrev Falls : Masks → List ℕ → ℕ → Type 0
   Falls masks scope g = fall m plan cost state′ masks scope g < fall m plan cost state masks scope g
 
@@ -73,16 +74,16 @@ module _ {m : Model} {plan : List ℕ} {Usable : ℕ → Type 0} {longest cost :
       omega (
         arith,
         named-cost m plan cost k,
-        fall-bounded valid laws s k
-            (omega (arith, Facts.move-below m valid plan (laws .shaped) k _ (h .member)))
+        fall-bounded valid tables routes costs s k
+            (omega (arith, Facts.move-below m valid plan (tables .shaped) k _ (h .member)))
             (needsOf m plan state′ masks k) (named m plan k)
-            (needs-scoped valid laws k _ (h .member))
-            (Sends.heading-needs-covered valid laws s masks k h u c),
+            (needs-scoped valid tables k _ (h .member) (h .usable))
+            (Sends.heading-needs-covered valid tables routes s masks k h u c),
       )
 
   own-falls : (masks : Masks) (scope : List ℕ) (k v : ℕ) → k < groupCount (groups m plan)
       → met (groups m plan) masks state k ≡ false → (h : Heading m plan Usable state masks k)
-      → v ≡ firstMove m plan state masks k → Moves m plan state state′ k v
+      → v ≡ firstMove m plan state masks k → MovesBy m plan state state′ k v
       → Scoped m plan masks scope (suc k) → Covered m plan masks state′ (suc k) → Falls masks scope (suc k)
   own-falls masks scope k v le u h e moves s c =
       by-cases (met (groups m plan) masks state′ k)
@@ -90,11 +91,11 @@ module _ {m : Model} {plan : List ℕ} {Usable : ℕ → Type 0} {longest cost :
         arith,
         fall-met m plan cost state′ masks scope k t,
         before,
-        fall-bounded valid laws (moves .sound) k (omega arith) masks scope
+        fall-bounded valid tables routes costs (moves .sound) k (omega arith) masks scope
             (λ a q l. s a q (omega arith)) (covered-below c),
       ))
       (λ f.
-      let h′ = Sends.covered-heading valid laws (moves .sound) masks k le f c in
+      let h′ = Sends.covered-heading valid tables (moves .sound) masks k le f c in
       let least = Following.target-least m plan state′ masks k _ (h .end-below) (h .end-allowed) in
       let near : h′ .later < h .later = omega (arith, h′ .far, nearer) in
       omega (
@@ -123,11 +124,11 @@ module _ {m : Model} {plan : List ℕ} {Usable : ℕ → Type 0} {longest cost :
 
   -- each command lowers it by at least one
   pub fall-falls : {masks : Masks} {g j v : ℕ} → Sends m plan Usable state masks g j v → g ≤ groupCount (groups m plan)
-      → Moves m plan state state′ j v → (scope : List ℕ) → Scoped m plan masks scope g
+      → MovesBy m plan state state′ j v → (scope : List ℕ) → Scoped m plan masks scope g
       → Covered m plan masks state′ g → Falls masks scope g
   fall-falls (lower {masks} {k} {j} {v} e s) le moves scope in-scope c =
       let n : k ≡ j → ⊥ = λ i. omega (arith, sends-below s) in
-      let t = Stays.met-elsewhere valid laws sound (sends-acting s) moves masks k n ∙ e in
+      let t = Stays.met-elsewhere valid tables sound moves masks k n ∙ e in
       omega (
         arith,
         fall-met m plan cost state masks scope k e,
@@ -138,8 +139,8 @@ module _ {m : Model} {plan : List ℕ} {Usable : ℕ → Type 0} {longest cost :
       own-falls masks scope k v le u h e moves in-scope c
   fall-falls (prepares {masks} {k} {j} {v} u h s) le moves scope in-scope c =
       let n : k ≡ j → ⊥ = λ i. omega (arith, sends-below s) in
-      let f = Stays.met-elsewhere valid laws sound (sends-acting s) moves masks k n ∙ u in
+      let f = Stays.met-elsewhere valid tables sound moves masks k n ∙ u in
       prepares-falls masks scope k (moves .elsewhere k n) u f
-      (fall-falls s (omega arith) moves (named m plan k) (needs-scoped valid laws k _ (h .member))
-      (Heading.needs-covered valid laws (moves .sound) k _ (h .member) (h .usable)
+      (fall-falls s (omega arith) moves (named m plan k) (needs-scoped valid tables k _ (h .member) (h .usable))
+      (Heading.needs-covered valid tables (moves .sound) k _ (h .member) (h .usable) routes
       (λ a up. c .upstream-live k a (omega arith) f up)))

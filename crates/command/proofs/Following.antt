@@ -5,10 +5,9 @@ use mathlib.Core.Path.{_≡_, refl}
 use mathlib.Core.Logic.{⊎-elim}
 use mathlib.Core.List.{List}
 use mathlib.Core.Bool.{true, false, not}
-use native.Mathlib.Omega.{arith}
 use borrow.Author.Tests.{leb-true, le-leb, lt-leb, eq-eqb, ne-eqb}
 use Rattle.common.specs.Lists.{upTo, any}
-use Rattle.common.specs.Reply.{Reply, given, unless}
+use Rattle.common.specs.Reply.{Reply, given, refused, unless}
 use Rattle.common.proofs.Bools.{by-cases, true-false, not-of-true, not-of-false, and-intro, and-left, and-right}
 use Rattle.common.proofs.Bools.{or-cases, or-left, or-right, or-false-intro}
 use Rattle.common.proofs.Members.{upTo-mem, upTo-below}
@@ -93,6 +92,12 @@ module _ (m : Model) (plan state : List ℕ) where
   unfolding followBy unless
   follow-fit next masks k e = rw e
 
+  pub follow-unfit : (next : Masks → Reply Next) (masks : Masks) (k : ℕ)
+      → unfit m plan state k (entryAt m plan k (present m plan state k) (targetOf m plan state masks k)) ≡ true
+      → followBy m plan state next masks k ≡ refused 15 0
+  unfolding followBy unless
+  follow-unfit next masks k e = rw e
+
   pub prepare-sends : (next : Masks → Reply Next) (k : ℕ) (v : Move) → holdsOutside m plan state k v ≡ true
       → prepareBy m plan state next k v ≡ given (command (v .machine) (v .command))
   unfolding prepareBy
@@ -103,16 +108,16 @@ module _ (m : Model) (plan state : List ℕ) where
   unfolding prepareBy
   prepare-asks next k v e = rw e
 
-  pub fit : (k : ℕ) (e : Entry) → e .distance < 255 → e .move < moveCount m
+  pub fit : (k : ℕ) (e : Entry) → (e .distance ≡ 255 → ⊥) → e .move < moveCount m
       → groupOf (groups m plan) (moveAt m (e .move) .machine) ≡ k
       → modeOf state (moveAt m (e .move) .machine) ≡ moveAt m (e .move) .from
       → holdsInside m plan state k (moveAt m (e .move)) ≡ true → unfit m plan state k e ≡ false
   unfolding unfit
-  fit k e near here own from inside =
+  fit k e far here own from inside =
       or-false-intro
       (or-false-intro
       (or-false-intro
-      (or-false-intro (ne-eqb (e .distance) 255 (λ q. omega arith)) (lt-leb _ _ here))
+      (or-false-intro (ne-eqb (e .distance) 255 far) (lt-leb _ _ here))
       (not-of-true (eq-eqb _ _ own)))
       (not-of-true (eq-eqb _ _ from)))
       (not-of-true inside)

@@ -11,12 +11,11 @@ use lib.Dec.{eqb}
 use lib.ListN.{getD}
 use Rattle.common.specs.Lists.{any, find}
 use Rattle.common.specs.Bits.{bit}
-use Rattle.common.proofs.Bits.{bit-full}
 use Rattle.common.proofs.Bools.{by-cases, true-false, bool-ext, or-false-left, or-false-right, false-of-not-true}
 use Rattle.common.proofs.Lists.{all-cong, all-at, all-intro, all-fails}
 use Rattle.common.proofs.Search.{find-holds, find-mem}
 use Rattle.common.proofs.When.{when-known, unless-known, all-when-intro}
-use Rattle.sheet.specs.Model.{Guard, Move, Model, machineCount, moveAt, guard}
+use Rattle.sheet.specs.Model.{Guard, Move, Model, machineCount, isLive, moveAt, guard}
 use Rattle.sheet.specs.Valid.{Valid, ValidMove}
 use Rattle.plan.specs.Groups.{Grouping, groupOf, members, movesOf, namedOutside}
 use Rattle.plan.specs.Modes.{size, modeIn, liveMode}
@@ -24,13 +23,14 @@ use Rattle.plan.specs.Usable.{meets}
 use Rattle.plan.specs.Reading.{groupsIn, wellShaped}
 use Rattle.plan.proofs.Named.{named-other, guard-inside-or-named, guard-valid, guard-at-most, moves-mem}
 use Rattle.plan.proofs.Modes.{member-below, member-of, is-member}
-use Rattle.plan.proofs.Modes.{modeIn-below, modeNumber-below, modeIn-modeNumber, live-modeNumber}
-use Rattle.command.specs.State.{modeOf}
+use Rattle.plan.proofs.Modes.{modeIn-below, modeNumber-below, modeIn-modeNumber}
+use Rattle.plan.proofs.Words.{members-mean, live-means}
+use Rattle.command.specs.State.{modes, modeOf}
 use Rattle.command.specs.Goal.{Masks, anyMode, guardMasks, met, allowed}
 use Rattle.command.specs.Attainable.{present, liveGroup}
 use Rattle.command.specs.Next.{holdsInside, holdsOutside}
 use Rattle.command.proofs.Shape.{Sound, groups-length, shape-first}
-use Rattle.command.proofs.Guards.{find-guard, mask-inside, mask-outside, mask-free}
+use Rattle.command.proofs.Guards.{full-byte, find-guard, mask-inside, mask-outside, mask-free}
 use Rattle.plan.proofs.Named.{moves-below, moves-group}
 
 -- machine by machine, and guard by guard
@@ -68,17 +68,16 @@ module _ (m : Model) (valid : Valid m) (plan : List ℕ) (shaped : wellShaped m 
   -- any mode of a machine is in the full byte
   full-mode : (a q i : ℕ) → List·Memᴰ i (members own a) → bit 255 (modeIn m own a q i) ≡ true
   full-mode a q i l =
-      let few = valid .machines-valid i (member-there a i l) .few-modes in
-      bit-full _ (omega (arith, modeIn-below m valid own (groups-length m valid plan shaped) a q i l))
+      full-byte valid i _ (member-there a i l) (modeIn-below m valid own (groups-length m valid plan shaped) a q i l)
 
   module _ (state : List ℕ) (sound : Sound m state) where
     pub present-below : (k : ℕ) → present m plan state k < size m (groupsIn m plan) k
-    present-below k = modeNumber-below m valid own (groups-length m valid plan shaped) k state (sound .fits)
+    present-below k = modeNumber-below m valid own (groups-length m valid plan shaped) k (modes state) (sound .fits)
 
     -- the mode of a machine in its group's present mode
     pub mode-present : (k i : ℕ) → List·Memᴰ i (members (groupsIn m plan) k)
         → modeIn m (groupsIn m plan) k (present m plan state k) i ≡ modeOf state i
-    mode-present k i l = modeIn-modeNumber m valid own (groups-length m valid plan shaped) k state i (sound .fits) l
+    mode-present k i l = modeIn-modeNumber m valid own (groups-length m valid plan shaped) k (modes state) i (sound .fits) l
 
     pub met-allowed : (masks : Masks) (k : ℕ)
         → met (groupsIn m plan) masks state k ≡ allowed m (groupsIn m plan) masks k (present m plan state k)
@@ -86,9 +85,15 @@ module _ (m : Model) (valid : Valid m) (plan : List ℕ) (shaped : wellShaped m 
     met-allowed masks k =
         all-cong _ _ (members own k) (λ i l. ap (bit (getD masks i anyMode)) (sym (mode-present k i l)))
 
-    pub live-present : (k : ℕ) → liveGroup m plan state k ≡ liveMode m (groupsIn m plan) k (present m plan state k)
+    -- a live group is in a live group mode; arrival uses no more than that
+    pub live-mode : (k : ℕ) → liveGroup m plan state k ≡ true
+        → liveMode m (groupsIn m plan) k (present m plan state k) ≡ true
     unfolding liveGroup
-    live-present k = sym (live-modeNumber m valid own (groups-length m valid plan shaped) k state (sound .fits))
+    live-mode k l =
+        let long = groups-length m valid plan shaped in
+        live-means m own long k _ .1 (λ i b.
+        let h = members-mean m own long i k .1 b in
+        ap (isLive m i) (mode-present k i h) ∙ all-at _ l h)
 
   -- the needs of a move of group k, taken as a goal
   module _ (k v : ℕ) (member : List·Memᴰ v (movesOf m (groupsIn m plan) k)) where

@@ -1,24 +1,30 @@
--- The guards of a move: one for a machine; and the goal that they make, machine by machine.
+-- The guards of a move: one for a machine; and the goal that they make, machine by machine. What is free allows any mode.
 -- Assumes nothing.
 use Prim.Native.Nat.{ℕ, zero, suc, _<_}
 use mathlib.Core.Path.{_≡_, refl, sym, ap, _∙_}
 use mathlib.Core.Logic.{⊎-elim}
 use mathlib.Core.List.{List·Memᴰ}
-use mathlib.Core.Bool.{false}
+use mathlib.Core.Bool.{true, false}
 use native.Mathlib.Nat.{not-suc-le-zero, eq-or-lt-of-le, le-of-suc-le-suc}
 use native.Mathlib.Omega.{arith}
 use borrow.Author.Tests.{eqb-true, eq-eqb, ne-eqb}
 use lib.Dec.{eqb}
 use lib.ListN.{length, getD}
 use Rattle.common.specs.Lists.{any, find}
+use Rattle.common.specs.Bits.{bit}
+use Rattle.common.proofs.Bits.{bit-full}
 use Rattle.common.proofs.Bools.{cond-true, cond-false}
 use Rattle.common.proofs.Members.{mem-index, getD-map-upTo}
 use Rattle.common.proofs.Lists.{any-intro}
 use Rattle.common.proofs.Search.{find-holds, find-mem, find-none}
-use Rattle.sheet.specs.Model.{Guard, Move, Model, machineCount, guardAt, guard, noGuard}
-use Rattle.sheet.specs.Valid.{ValidMove}
+use Rattle.sheet.specs.Model.{Guard, Move, Model, machineCount, modeCount, guardAt, guard, noGuard}
+use Rattle.sheet.specs.Valid.{Valid, ValidMove}
 use Rattle.plan.specs.Groups.{Grouping, groupOf}
 use Rattle.command.specs.Goal.{anyMode, guardMasks}
+
+-- any mode that a machine has is in the full byte
+pub full-byte : {m : Model} → Valid m → (i mode : ℕ) → i < machineCount m → mode < modeCount m i → bit anyMode mode ≡ true
+full-byte valid i mode there has = bit-full mode (omega (arith, valid .machines-valid i there .few-modes))
 
 module _ {m : Model} {v : Move} (valid : ValidMove m v) where
   pub guards-rise : (n k : ℕ) → n < k → k < length (v .guards) → guardAt v n .machine < guardAt v k .machine

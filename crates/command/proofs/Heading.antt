@@ -1,8 +1,8 @@
 -- The entry of an unmet group toward its target, and its first move; the needs of a usable move are covered.
 -- Assumes nothing.
 use Prim.Native.Nat.{ℕ, zero, suc, _≤_, _<_}
-use mathlib.Core.Path.{_≡_, refl, sym, ap, _∙_}
-use mathlib.Core.Logic.{_⊎_, inl, inr, ⊎-elim}
+use mathlib.Core.Path.{_≡_, refl, ap, _∙_}
+use mathlib.Core.Logic.{⊎-elim}
 use mathlib.Core.List.{List, [], _∷_, List·Memᴰ}
 use mathlib.Core.Bool.{true, false}
 use native.Mathlib.Omega.{arith}
@@ -11,25 +11,27 @@ use Rattle.common.proofs.Least.{mem-or-not}
 use Rattle.sheet.specs.Model.{Model, moveAt}
 use Rattle.sheet.specs.Valid.{Valid}
 use Rattle.plan.specs.Groups.{groupCount, movesOf, namedOutside}
-use Rattle.plan.specs.Modes.{size, liveMode}
+use Rattle.plan.specs.Modes.{size}
 use Rattle.plan.specs.Usable.{leads, target}
 use Rattle.plan.specs.Reading.{entryAt}
-use Rattle.plan.specs.Laws.{IsDistance, Connects, PlanLaws}
+use Rattle.plan.specs.Laws.{IsDistance, TableLaws, RouteLaws}
 use Rattle.command.specs.Goal.{Masks, guardMasks, met, allowed}
-use Rattle.command.specs.Ancestors.{upstream}
+use Rattle.command.specs.Ancestors.{upstreamIn}
 use Rattle.command.specs.Attainable.{groups, present, liveGroup}
-use Rattle.command.specs.Covered.{Covered, Attains}
+use Rattle.command.specs.Covered.{Covered, Attains, Safe}
 use Rattle.command.specs.Next.{targetOf, unfit}
 use Rattle.command.proofs.Facts
 use Rattle.command.proofs.Facts.{Sound}
+use Rattle.command.proofs.Safe.{safe-attains, safe-of-live}
 use Rattle.command.proofs.Following
 use Rattle.command.proofs.Following.{firstMove}
 use Rattle.plan.proofs.Named.{moves-below, moves-group, named-of-move}
+use Rattle.plan.proofs.Counted.{usable-counts}
 use Rattle.plan.specs.Reading.{groupsIn}
 
 -- the groups upstream of k are live
 abbrev pub UpstreamLive : Model → List ℕ → List ℕ → ℕ → Type 0
-UpstreamLive m plan state k = (a : ℕ) → upstream m (groups m plan) k a ≡ true → liveGroup m plan state a ≡ true
+UpstreamLive m plan state k = (a : ℕ) → upstreamIn m plan k a ≡ true → liveGroup m plan state a ≡ true
 
 module _ (m : Model) (plan : List ℕ) (Usable : ℕ → Type 0) (state : List ℕ) where
   -- the entry of group k toward its target: a route of `later` + 1 moves, and what is known of its first move
@@ -45,13 +47,13 @@ module _ (m : Model) (plan : List ℕ) (Usable : ℕ → Type 0) (state : List �
         entryAt m plan k (target m (groups m plan) k (moveAt m (firstMove m plan state masks k)) (present m plan state k))
         (targetOf m plan state masks k) .distance ≤ later
 
-module _ {m : Model} {plan : List ℕ} {Usable : ℕ → Type 0} {longest cost : ℕ → ℕ} (valid : Valid m)
-    (laws : PlanLaws m plan Usable longest cost) {state : List ℕ} (sound : Sound m state) where
+module _ {m : Model} {plan : List ℕ} {Usable : ℕ → Type 0} {longest : ℕ → ℕ} (valid : Valid m)
+    (tables : TableLaws m plan Usable longest) {state : List ℕ} (sound : Sound m state) where
   abbrev N : ℕ
   N = groupCount (groups m plan)
 
   pub heading : (masks : Masks) (k : ℕ) → k < N → met (groups m plan) masks state k ≡ false
-      → Attains m plan masks state k (present m plan state k) → Heading m plan Usable state masks k
+      → Attains m plan masks k (present m plan state k) → Heading m plan Usable state masks k
   heading masks k below unmet a =
       go (entryAt m plan k here (targetOf m plan state masks k) .distance) refl
     where
@@ -68,17 +70,17 @@ module _ {m : Model} {plan : List ℕ} {Usable : ℕ → Type 0} {longest cost :
       t-allowed = Following.target-allowed m plan state masks k (a .0) (a .1) (a .2)
 
       here-below : here < size m (groups m plan) k
-      here-below = Facts.present-below m valid plan (laws .shaped) state sound k
+      here-below = Facts.present-below m valid plan (tables .shaped) state sound k
 
       go : (d : ℕ) → entryAt m plan k here t .distance ≡ d → Heading m plan Usable state masks k
       go zero e =
-          let q = laws .self-zero k here t below here-below t-below e in
-          let same = Facts.met-allowed m valid plan (laws .shaped) state sound masks k in
+          let q = tables .self-zero k here t below here-below t-below e in
+          let same = Facts.met-allowed m valid plan (tables .shaped) state sound masks k in
           absurd (true-false (same ∙ ap (allowed m (groups m plan) masks k) q ∙ t-allowed) unmet)
       go (suc d) e =
           let least = Following.target-least m plan state masks k (a .0) (a .1) (a .2) in
           let far : IsDistance m plan k here t (suc d) = (e, omega (arith, a .3)) in
-          let f = laws .first-move k here t d below here-below t-below far in
+          let f = tables .first-move k here t d below here-below t-below far in
           record {
             end-below = t-below;
             end-allowed = t-allowed;
@@ -98,8 +100,8 @@ module _ {m : Model} {plan : List ℕ} {Usable : ℕ → Type 0} {longest cost :
       (omega (arith, h .far))
       (moves-below m (groupsIn m plan) k (h .member))
       (moves-group m (groupsIn m plan) k (h .member))
-      (Facts.leading-from m valid plan (laws .shaped) k _ (h .member) state sound (h .leading))
-      (Facts.leading-inside m valid plan (laws .shaped) k _ (h .member) state sound (h .leading))
+      (Facts.leading-from m valid plan (tables .shaped) k _ (h .member) state sound (h .leading))
+      (Facts.leading-inside m valid plan (tables .shaped) k _ (h .member) state sound (h .leading))
 
   -- the groups that a move of group k names, and its needs taken as a goal
   module _ (k v : ℕ) (member : List·Memᴰ v (movesOf m (groups m plan) k)) where
@@ -109,64 +111,44 @@ module _ {m : Model} {plan : List ℕ} {Usable : ℕ → Type 0} {longest cost :
     abbrev Named : ℕ → Type 0
     Named a = List·Memᴰ a (namedOutside m (groups m plan) k (v ∷ []))
 
-    named-or-free : (a : ℕ) → Named a ⊎ ((q : ℕ) → allowed m (groups m plan) needs a q ≡ true)
-    named-or-free a =
-        ⊎-elim inl (λ n. inr (λ q. Facts.needs-free m valid plan (laws .shaped) k v member a q n))
-        (mem-or-not a (namedOutside m (groups m plan) k (v ∷ [])))
-
     pub unmet-named : (a : ℕ) → met (groups m plan) needs state a ≡ false → Named a
     unmet-named a unmet =
         ⊎-elim (λ n. n)
-        (λ free. absurd (true-false (Facts.met-allowed m valid plan (laws .shaped) state sound needs a ∙ free _) unmet))
-        (named-or-free a)
+        (λ n. absurd (true-false (Facts.met-allowed m valid plan (tables .shaped) state sound needs a
+        ∙ Facts.needs-free m valid plan (tables .shaped) k v member a _ n) unmet))
+        (mem-or-not a (namedOutside m (groups m plan) k (v ∷ [])))
 
     k-below : k < N
-    k-below = Facts.move-below m valid plan (laws .shaped) k v member
+    k-below = Facts.move-below m valid plan (tables .shaped) k v member
 
-    pub named-up : (a : ℕ) → Named a → upstream m (groups m plan) k a ≡ true
-    named-up a n =
-        Facts.named-upstream m valid plan (laws .shaped) k a
-        (named-of-move m (groupsIn m plan) k member n) k-below
+    -- a usable move counts: what it names is upstream of its group
+    module _ (usable : Usable v) where
+      pub named-up : (a : ℕ) → Named a → upstreamIn m plan k a ≡ true
+      named-up a n =
+          Facts.named-upstream m valid plan (tables .shaped) k a
+          (named-of-move m (groupsIn m plan) k (usable-counts m plan k Usable member usable) n) k-below
 
-    pub unmet-up : (a : ℕ) → met (groups m plan) needs state a ≡ false → upstream m (groups m plan) k a ≡ true
-    unmet-up a unmet = named-up a (unmet-named a unmet)
+      pub unmet-up : (a : ℕ) → met (groups m plan) needs state a ≡ false → upstreamIn m plan k a ≡ true
+      unmet-up a unmet = named-up a (unmet-named a unmet)
 
-    unmet-up-up : (a b : ℕ) → met (groups m plan) needs state a ≡ false → upstream m (groups m plan) a b ≡ true
-        → upstream m (groups m plan) k b ≡ true
-    unmet-up-up a b unmet u = Facts.upstream-trans m valid plan (laws .shaped) k a b (unmet-up a unmet) u
+      unmet-up-up : (a b : ℕ) → met (groups m plan) needs state a ≡ false → upstreamIn m plan a b ≡ true
+          → upstreamIn m plan k b ≡ true
+      unmet-up-up a b unmet u = Facts.upstream-trans m valid plan (tables .shaped) k a b (unmet-up a unmet) u
 
-    -- of a usable move they are covered
-    module _ (usable : Usable v) (live : UpstreamLive m plan state k) where
-      named-attains : (a q : ℕ) → Named a → q < size m (groups m plan) a → liveMode m (groups m plan) a q ≡ true
-          → Attains m plan needs state a q
-      named-attains a q n below l =
-          let here = moves-below m (groupsIn m plan) k member in
-          let named = rw (← moves-group m (groupsIn m plan) k member) at n in
-          let r = laws .always-met v a q here usable named below l in
-          let low = Facts.upstream-below m valid plan (laws .shaped) k a (named-up a n) in
-          let other : a ≡ k → ⊥ = λ e. omega arith in
-          (r .0, r .1, Facts.needs-allowed m valid plan (laws .shaped) k v member a (r .0) other ∙ r .2, r .3)
+      -- and its needs are covered
+      module _ (routes : RouteLaws m plan Usable) (live : UpstreamLive m plan state k) where
+        up-safe : (a : ℕ) → upstreamIn m plan k a ≡ true → Safe m plan needs a (present m plan state a)
+        up-safe a u =
+            safe-of-live valid tables routes k member usable a _ (Facts.upstream-below m valid plan (tables .shaped) k a u)
+            (Facts.present-below m valid plan (tables .shaped) state sound a)
+            (Facts.live-mode m valid plan (tables .shaped) state sound a (live a u))
 
-      up-mode-live : (a : ℕ) → upstream m (groups m plan) k a ≡ true
-          → liveMode m (groups m plan) a (present m plan state a) ≡ true
-      up-mode-live a u = sym (Facts.live-present m valid plan (laws .shaped) state sound a) ∙ live a u
-
-      up-attains : (a q : ℕ) → upstream m (groups m plan) k a ≡ true → q < size m (groups m plan) a
-          → Connects m plan a (present m plan state a) q → Attains m plan needs state a q
-      up-attains a q u below c =
-          let a-below : a < N = omega (arith, k-below, Facts.upstream-below m valid plan (laws .shaped) k a u) in
-          ⊎-elim
-          (λ n. named-attains a q n below (laws .connects-live a (present m plan state a) q a-below
-          (Facts.present-below m valid plan (laws .shaped) state sound a) below c (up-mode-live a u)))
-          (λ free. (q, below, free q, omega (arith, laws .zero-self a q a-below below)))
-          (named-or-free a)
-
-      pub needs-covered : Covered m plan needs state k
-      needs-covered =
-          record {
-            itself-live = λ a h unmet. live a (unmet-up a unmet);
-            upstream-live = λ a b h unmet u. live b (unmet-up-up a b unmet u);
-            attains = λ a h unmet. named-attains a _ (unmet-named a unmet)
-                (Facts.present-below m valid plan (laws .shaped) state sound a) (up-mode-live a (unmet-up a unmet));
-            no-dead-end = λ a b q h unmet u below c. up-attains b q (unmet-up-up a b unmet u) below c;
-          }
+        pub needs-covered : Covered m plan needs state k
+        needs-covered =
+            record {
+              itself-live = λ a h unmet. live a (unmet-up a unmet);
+              upstream-live = λ a b h unmet u. live b (unmet-up-up a b unmet u);
+              attains = λ a h unmet. safe-attains valid tables a _ (omega (arith, k-below))
+                  (Facts.present-below m valid plan (tables .shaped) state sound a) (up-safe a (unmet-up a unmet));
+              no-dead-end = λ a b h unmet u. up-safe b (unmet-up-up a b unmet u);
+            }

@@ -1,72 +1,114 @@
--- The words about states, goals and moves mean what they should: 13, 14, group modes of a state, where a move leads.
+-- The words about states, goals and moves mean what they should: group modes of a state, what a goal allows, where a move
+-- leads.
 -- Assumes nothing.
-use mathlib.Core.Path.{sym, _∙_}
-use borrow.Author.Tests.{eqb-false, ne-eqb, ltb-false, le-ltb}
-use lib.Dec.{eqb}
-use lib.ListN.{length}
-use Rattle.common.specs.Lists.{upTo}
-use Rattle.common.proofs.Bools.{or-false-left, or-false-right, or-false-intro}
-use Rattle.common.proofs.Lists.{any-none, any-fails}
-use Rattle.common.proofs.Members.{upTo-mem, upTo-below}
-use Rattle.common.proofs.Clear.{clear-each, each-clear}
+use Prim.Native.Nat.{ℕ, _<_}
+use mathlib.Core.Path.{_≡_}
+use mathlib.Core.Logic.{_↔_}
+use mathlib.Core.List.{List, List·Memᴰ}
+use mathlib.Core.Bool.{Bool, true}
+use native.Mathlib.Omega.{arith}
+use borrow.Author.Tests.{eqb-true, eqb-false, eq-eqb, ltb-true, lt-ltb}
+use lib.Dec.{eqb, ltb}
+use lib.ListN.{length, getD}
+use Rattle.common.specs.Lists.{all, any}
+use Rattle.common.specs.Bits.{bit}
+use Rattle.common.proofs.Bools.{by-cases, true-false}
+use Rattle.common.proofs.Lists.{all-at, all-intro, any-intro}
+use Rattle.common.proofs.Members.{getD-map-upTo}
+use Rattle.common.proofs.Search.{find-holds, find-mem}
 use Rattle.sheet.specs.Record.{byte}
-use Rattle.sheet.specs.Model.{moveAt}
-use Rattle.plan.specs.Reading.{groupsIn}
-use Rattle.plan.proofs.Modes.{modeIn-shifted-same, modeIn-shifted-other}
-use Rattle.plan.proofs.Steps.{target-shifted, mover-valid, mover-member, target-below}
-use Rattle.command.specs.State.{badByte, goalFaults}
-use Rattle.command.specs.Meaning.{StatePasses, GoalPasses, StatesRight, MovesRight}
-use Rattle.command.proofs.Shape.{sound-state, state-sound, groups-length}
-use Rattle.command.proofs.Goals.{present-below, mode-present, live-present, met-allowed}
-use Rattle.command.proofs.Acts.{acting-only}
+use Rattle.sheet.specs.Model.{Guard, Model, machineCount, modeCount, moveCount, moveAt, isLive, guard}
+use Rattle.sheet.specs.Valid.{Valid}
+use Rattle.plan.specs.Groups.{Grouping, groupOf, members}
+use Rattle.plan.specs.Modes.{modeIn}
+use Rattle.plan.specs.Meaning.{Belongs}
+use Rattle.plan.specs.Reading.{groupsIn, wellShaped}
+use Rattle.plan.proofs.Words.{members-mean}
+use Rattle.plan.proofs.Steps.{target-below, target-to, target-others}
+use Rattle.command.specs.State.{modeOf}
+use Rattle.command.specs.Goal.{anyMode, goalMasks, guardMasks, met, allowed}
+use Rattle.command.specs.Attainable.{liveGroup}
+use Rattle.command.specs.Meaning.{StatesRight, GoalsRight, MovesRight}
+use Rattle.command.proofs.Shape.{sound-state, groups-length}
+use Rattle.command.proofs.Goals.{present-below, mode-present}
+use Rattle.command.proofs.Guards.{full-byte, find-guard, mask-inside, mask-outside, mask-free}
 
-pub state-passes : StatePasses
-state-passes m state = (
-  λ h. let s = sound-state m state h in (s .long, s .fits),
-  λ s. each-clear _ (state-sound m state (record { long = s .0; fits = s .1 })),
-)
+module _ (m : Model) (valid : Valid m) (plan : List ℕ) (shaped : wellShaped m plan ≡ true) where
+  abbrev own : Grouping
+  own = groupsIn m plan
 
-pub goal-passes : GoalPasses
-unfolding goalFaults badByte
-goal-passes m goal = (
-  λ h.
-      let c = clear-each _ h in (
-        ltb-false _ _ (c .0),
-        λ i l.
-            let n = any-none _ (c .1 .0) (upTo-mem l) in
-            (eqb-false _ _ (or-false-left (eqb (byte goal i) 0) _ n), or-false-right (eqb (byte goal i) 0) _ n),
-      ),
-  λ g. each-clear _ (
-    le-ltb _ _ (g .0),
-    (
-      any-fails _ (upTo (length goal)) (λ i l.
-          let b = g .1 i (upTo-below (length goal) l) in
-          or-false-intro (ne-eqb _ _ (b .0)) (b .1)),
-      tt,
-    ),
-  ),
-)
+  belongs : (i k : ℕ) → List·Memᴰ i (members (groupsIn m plan) k) ↔ Belongs m (groupsIn m plan) i k
+  belongs = members-mean m own (groups-length m valid plan shaped)
+
+  -- what holds of each member of a group holds of each machine that belongs to it, and the other way round
+  each-machine : (p : ℕ → Bool) (k : ℕ)
+      → (all p (members (groupsIn m plan) k) ≡ true) ↔ ((i : ℕ) → Belongs m (groupsIn m plan) i k → p i ≡ true)
+  each-machine p k = (
+    λ h i b. all-at p h (belongs i k .1 b),
+    λ h. all-intro p (members own k) (λ i l. h i (belongs i k .0 l)),
+  )
+
+  wished-by : (goal : List ℕ) (i mode : ℕ) → i < machineCount m → mode < modeCount m i
+      → (bit (getD (goalMasks m goal) i 255) mode ≡ true) ↔ (i < length goal → bit (byte goal i) mode ≡ true)
+  unfolding goalMasks
+  wished-by goal i mode there has =
+      rw (getD-map-upTo _ anyMode there)
+      (by-cases (ltb i (length goal))
+      (λ t. rw t (λ b l. b, λ h. h (ltb-true _ _ t)))
+      (λ f. rw f (λ b l. absurd (true-false (lt-ltb _ _ l) f), λ h. full-byte valid i mode there has)))
+
+  needed-by : (k v i mode : ℕ) → v < moveCount m → i < machineCount m → mode < modeCount m i
+      → (bit (getD (guardMasks m (groupsIn m plan) k (moveAt m v)) i 255) mode ≡ true)
+      ↔ ((g : Guard) → List·Memᴰ g (moveAt m v .guards) → g .machine ≡ i → (groupOf (groupsIn m plan) i ≡ k → ⊥)
+      → bit (g .mask) mode ≡ true)
+  needed-by k v i mode listed there has =
+      let guards = moveAt m v .guards in
+      by-cases (eqb (groupOf own i) k)
+      (λ t.
+      let inside = eqb-true _ _ t in
+      rw (mask-inside m own k (moveAt m v) i there inside)
+      (λ b g l e n. absurd (n inside), λ h. full-byte valid i mode there has))
+      (λ f.
+      let outside = eqb-false _ _ f in
+      by-cases (any (λ g. eqb (g .machine) i) guards)
+      (λ some.
+      let first = guard i anyMode in
+      rw (mask-outside m own k (moveAt m v) i there outside) (
+        λ b g l e n. rw (rw e at (find-guard (valid .moves-valid v listed) first l)) at b,
+        λ h. h _ (find-mem _ guards first some) (eqb-true _ _ (find-holds _ guards first some)) outside,
+      ))
+      (λ none. rw (mask-free m own k (moveAt m v) i there outside none) (
+        λ b g l e n. absurd (true-false (any-intro _ l (eq-eqb _ _ e)) none),
+        λ h. full-byte valid i mode there has,
+      )))
 
 pub states-right : StatesRight
+unfolding liveGroup met
 states-right m plan state valid shaped passes =
     let sound = sound-state m state passes in
     record {
       below = present-below m valid plan shaped state sound;
-      modes = mode-present m valid plan shaped state sound;
-      live = live-present m valid plan shaped state sound;
-      met-allowed = met-allowed m valid plan shaped state sound;
-      one-acts = λ i c v w h l t u. sym (acting-only m valid state i c v h t) ∙ acting-only m valid state i c w l u;
+      modes = λ k i b. mode-present m valid plan shaped state sound k i (belongs m valid plan shaped i k .1 b);
+      live = each-machine m valid plan shaped (λ i. isLive m i (modeOf state i));
+      met-by = λ masks. each-machine m valid plan shaped (λ i. bit (getD masks i 255) (modeOf state i));
+    }
+
+pub goals-right : GoalsRight
+unfolding allowed
+goals-right m plan valid shaped =
+    record {
+      allowed-by = λ masks k q.
+          each-machine m valid plan shaped (λ i. bit (getD masks i 255) (modeIn m (groupsIn m plan) k q i)) k;
+      wished = wished-by m valid plan shaped;
+      needed = needed-by m valid plan shaped;
     }
 
 pub moves-right : MovesRight
 moves-right m plan k v p valid shaped member below leading =
     let own = groupsIn m plan in
     let n = groups-length m valid plan shaped in
-    let e = target-shifted m own k (moveAt m v) p leading in
-    let machine = mover-member m valid own n k member in
-    let to = mover-valid m valid own n k member .to-present in
     record {
       below = target-below m valid own n k member below leading;
-      mover = rw e (modeIn-shifted-same m valid own n k p _ _ below machine to);
-      others = rw e (modeIn-shifted-other m valid own n k p _ _ below machine to);
+      mover = target-to m valid own n k member below leading;
+      others = target-others m valid own n k member below leading;
     }

@@ -6,16 +6,17 @@ use mathlib.Core.Logic.{_⊎_, inl, inr, ⊎-elim}
 use mathlib.Core.List.{List, List·Memᴰ}
 use mathlib.Core.Bool.{true, false}
 use native.Mathlib.Omega.{arith}
-use lib.ListN.{set}
 use Rattle.common.proofs.Least.{last-or-below}
-use Rattle.sheet.specs.Model.{Model, moveAt}
+use Rattle.sheet.specs.Model.{Model, modeCount, isLive, moveAt}
 use Rattle.sheet.specs.Valid.{Valid}
 use Rattle.plan.specs.Groups.{movesOf}
-use Rattle.plan.specs.Usable.{leads, target}
-use Rattle.plan.specs.Laws.{PlanLaws}
+use Rattle.plan.specs.Usable.{leads, landing, target}
+use Rattle.plan.specs.Laws.{TableLaws}
+use Rattle.plan.proofs.Named.{moves-below}
+use Rattle.command.specs.State.{withMode}
 use Rattle.command.specs.Goal.{Masks, met}
-use Rattle.command.specs.Ancestors.{upstream}
-use Rattle.command.specs.Attainable.{groups, present}
+use Rattle.command.specs.Ancestors.{upstreamIn}
+use Rattle.command.specs.Attainable.{groups, present, liveGroup}
 use Rattle.command.specs.Covered.{Attains}
 use Rattle.command.specs.Next.{holdsOutside}
 use Rattle.command.proofs.Facts
@@ -39,14 +40,19 @@ module _ (m : Model) (plan state : List ℕ) where
     pub top-unmet : met (groups m plan) masks state top ≡ false
     pub above-met : (a : ℕ) → top < a → a < g → met (groups m plan) masks state a ≡ true
     pub way :
-        ((j ≡ top) × Attains m plan masks state j (target m (groups m plan) j (moveAt m v) (present m plan state j)))
-        ⊎ (upstream m (groups m plan) top j ≡ true)
+        ((j ≡ top) × Attains m plan masks j (target m (groups m plan) j (moveAt m v) (present m plan state j)))
+        ⊎ (upstreamIn m plan top j ≡ true)
 
-  -- the state that the move leaves
-  pub record Moves (state′ : List ℕ) (j v : ℕ) : Type 0 where
+  -- the state that a command leaves: group j is in mode p
+  pub record Moves (state′ : List ℕ) (j p : ℕ) : Type 0 where
     pub sound : Sound m state′
-    pub there : present m plan state′ j ≡ target m (groups m plan) j (moveAt m v) (present m plan state j)
+    pub there : present m plan state′ j ≡ p
     pub elsewhere : (a : ℕ) → (a ≡ j → ⊥) → present m plan state′ a ≡ present m plan state a
+    pub live : (a : ℕ) → liveGroup m plan state a ≡ true → liveGroup m plan state′ a ≡ true
+
+  -- the state that move v of group j leaves
+  abbrev pub MovesBy : List ℕ → ℕ → ℕ → Type 0
+  MovesBy state′ j v = Moves state′ j (target m (groups m plan) j (moveAt m v) (present m plan state j))
 
 module _ {m : Model} {plan : List ℕ} {Usable : ℕ → Type 0} {state : List ℕ} where
   pub sends-below : {masks : Masks} {g j v : ℕ} → Sends m plan Usable state masks g j v → j < g
@@ -60,8 +66,8 @@ module _ {m : Model} {plan : List ℕ} {Usable : ℕ → Type 0} {state : List �
       record { member = rw i (h .member); usable = rw i (h .usable); leading = rw i (h .leading); outside = o }
   sends-acting (prepares e h s) = sends-acting s
 
-module _ {m : Model} {plan : List ℕ} {Usable : ℕ → Type 0} {longest cost : ℕ → ℕ} (valid : Valid m)
-    (laws : PlanLaws m plan Usable longest cost) {state : List ℕ} (sound : Sound m state) where
+module _ {m : Model} {plan : List ℕ} {Usable : ℕ → Type 0} {longest : ℕ → ℕ} (valid : Valid m)
+    (tables : TableLaws m plan Usable longest) {state : List ℕ} (sound : Sound m state) where
   pub sends-highest : {masks : Masks} {g j v : ℕ} → Sends m plan Usable state masks g j v
       → Highest m plan state masks g j v
   sends-highest {j} {v} (lower {k} e s) =
@@ -83,8 +89,8 @@ module _ {m : Model} {plan : List ℕ} {Usable : ℕ → Type 0} {longest cost :
       }
   sends-highest (prepares {masks} {k} {j} {v} e h s) =
       let r = sends-highest s in
-      let u = Heading.unmet-up valid laws sound k _ (h .member) (r .top) (r .top-unmet) in
-      let on = Facts.upstream-trans m valid plan (laws .shaped) k in
+      let u = Heading.unmet-up valid tables sound k _ (h .member) (h .usable) (r .top) (r .top-unmet) in
+      let on = Facts.upstream-trans m valid plan (tables .shaped) k in
       record {
         top = k;
         top-below = omega arith;
@@ -93,12 +99,22 @@ module _ {m : Model} {plan : List ℕ} {Usable : ℕ → Type 0} {longest cost :
         way = inr (⊎-elim (λ w. rw (w .0) u) (λ w. on (r .top) j u w) (r .way));
       }
 
-  pub acting-moves : {j v : ℕ} → Acting m plan Usable state j v
-      → Moves m plan state (set state (moveAt m v .machine) (moveAt m v .to)) j v
-  acting-moves {j} {v} a =
-      let shaped = laws .shaped in
-      record {
-        sound = Facts.applied-sound m valid plan shaped j v (a .member) state sound (a .leading) (a .outside);
-        there = Facts.applied-target m valid plan shaped j v (a .member) state sound (a .leading) (a .outside);
-        elsewhere = Facts.applied-elsewhere m valid plan shaped j v (a .member) state sound (a .leading) (a .outside);
-      }
+  module _ {j v : ℕ} (a : Acting m plan Usable state j v) where
+    -- its machine may end in any live mode that it has
+    pub acting-lands : (mode : ℕ) → mode < modeCount m (moveAt m v .machine) → isLive m (moveAt m v .machine) mode ≡ true
+        → Moves m plan state (withMode state (moveAt m v .machine) mode) j
+        (landing m (groups m plan) j (moveAt m v) mode (present m plan state j))
+    acting-lands mode has live =
+        let shaped = tables .shaped in
+        record {
+          sound = Facts.applied-sound m valid plan shaped j v (a .member) state sound mode has;
+          there = Facts.applied-landing m valid plan shaped j v (a .member) state sound (a .leading) mode has;
+          elsewhere = Facts.applied-elsewhere m valid plan shaped j v (a .member) state sound mode has;
+          live = Facts.applied-live m valid plan shaped j v (a .member) state sound mode live;
+        }
+
+    pub acting-moves : MovesBy m plan state (withMode state (moveAt m v .machine) (moveAt m v .to)) j v
+    unfolding target
+    acting-moves =
+        let own = valid .moves-valid v (moves-below m (groups m plan) j (a .member)) in
+        acting-lands (moveAt m v .to) (own .to-present) (own .to-live)

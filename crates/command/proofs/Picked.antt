@@ -1,77 +1,91 @@
--- Next command replies what the method picks.
+-- Next command replies what the method picks, and the method picks nothing else.
 -- Assumes nothing.
-use Prim.Native.Nat.{ℕ, zero, suc, _≤_, _<_}
-use mathlib.Core.Path.{_≡_, _∙_}
+use Prim.Native.Nat.{ℕ, zero, suc, _<_}
+use mathlib.Core.Path.{_≡_, sym, ap, _∙_}
 use mathlib.Core.List.{List}
-use mathlib.Core.Bool.{true, false, not}
+use mathlib.Core.Bool.{true, false}
 use mathlib.Core.Logic.{⊎-elim}
 use native.Mathlib.Nat.{not-suc-le-zero}
 use native.Mathlib.Omega.{arith}
-use borrow.Author.Tests.{leb-true, leb-false, le-leb}
-use lib.Dec.{leb}
-use Rattle.common.specs.Reply.{given}
-use Rattle.common.proofs.Bools.{by-cases, and-intro, or-left, or-right, not-of-false}
-use Rattle.common.proofs.Lists.{all-intro}
-use Rattle.common.proofs.Members.{upTo-below}
+use Rattle.common.specs.Reply.{Reply, given, refused}
+use Rattle.common.proofs.Bools.{by-cases, true-false, true-of-not-false}
 use Rattle.common.proofs.Least.{last-or-below}
-use Rattle.common.proofs.Search.{find-upTo-least}
-use Rattle.sheet.specs.Model.{Model, moveAt}
+use Rattle.sheet.specs.Model.{Model}
 use Rattle.sheet.specs.Valid.{Valid}
 use Rattle.sheet.proofs.Parsed.{parse-valid}
-use Rattle.plan.specs.Groups.{groupCount}
-use Rattle.plan.specs.Laws.{PlanLaws}
-use Rattle.plan.specs.Modes.{size}
-use Rattle.plan.proofs.Planned.{planned-lawful}
-use Rattle.command.specs.Goal.{Masks, met, allowed}
+use Rattle.plan.specs.Reading.{groupsIn, wellShaped}
+use Rattle.command.specs.Goal.{Masks, met}
 use Rattle.command.specs.Attainable.{groups}
-use Rattle.command.specs.Covered.{Covered}
-use Rattle.command.specs.Next.{Next, done, distanceTo, nearest, targetOf, holdsOutside, fulfil}
-use Rattle.command.specs.Method.{HighestUnmet, Target, Picks, nothing-unmet, sends, prepares, MethodFollowed}
-use Rattle.command.proofs.Facts
-use Rattle.command.proofs.Facts.{Sound}
-use Rattle.command.proofs.Shape.{sound-state}
+use Rattle.command.specs.Next.{Next, done, targetOf, holdsOutside, unfit, prepareBy, followBy, fulfil}
+use Rattle.command.specs.Method.{HighestUnmet, Target, entryToward, moveToward, Fit, MethodFollowed}
+use Rattle.command.specs.Method.{Picks, nothing-unmet, unfit as held-up, sends, prepares}
 use Rattle.command.proofs.Following
-use Rattle.command.proofs.Following.{firstMove, needsOf}
-use Rattle.command.proofs.Heading
-use Rattle.command.proofs.Heading.{Heading}
-use Rattle.command.proofs.Sends.{covered-below, covered-heading, heading-needs-covered}
+use Rattle.command.proofs.Fitness.{fit-test, test-fit, ready-test, test-ready, waits-test, test-waits}
+use Rattle.command.proofs.Targets.{LeavesModes, goal-leaves, needs-leave, allowed-some}
+use Rattle.command.proofs.Targets.{target-right, target-only}
 use Rattle.command.proofs.Asking.{refusals-parts, next-fulfils}
 
-module _ {m : Model} {plan : List ℕ} {Usable : ℕ → Type 0} {longest cost : ℕ → ℕ} (valid : Valid m)
-    (laws : PlanLaws m plan Usable longest cost) {state : List ℕ} (sound : Sound m state) where
-  near : (masks : Masks) (k t : ℕ) → allowed m (groups m plan) masks k t ≡ true
-      → distanceTo m plan state k t ≤ distanceTo m plan state k (targetOf m plan state masks k)
-      → nearest m plan state masks k t ≡ true
-  unfolding nearest
-  near masks k t a le =
-      and-intro a
-      (all-intro _ _ (λ u i. by-cases (allowed m (groups m plan) masks k u)
-      (λ b. or-right (not (allowed m (groups m plan) masks k u))
-      (le-leb (distanceTo m plan state k t) (distanceTo m plan state k u)
-      (omega (arith, le, Following.target-least m plan state masks k u (upTo-below (size m (groups m plan) k) i) b))))
-      (λ f. or-left _ (not-of-false f))))
+module _ (m : Model) (plan state : List ℕ) where
+  -- What the method picks is replied
 
-  least : (masks : Masks) (k t : ℕ) → t < size m (groups m plan) k → nearest m plan state masks k t ≡ true
-      → targetOf m plan state masks k ≤ t
-  unfolding targetOf
-  least masks k t l n = find-upTo-least (nearest m plan state masks k) 0 t l n
+  fulfil-all-met : (masks : Masks) (n : ℕ) → ((k : ℕ) → k < n → met (groups m plan) masks state k ≡ true)
+      → fulfil m plan state masks n ≡ given done
+  fulfil-all-met masks zero h = Following.fulfil-none m plan state masks
+  fulfil-all-met masks (suc n) h =
+      Following.fulfil-met m plan state masks n (h n (omega arith)) ∙ fulfil-all-met masks n (λ k l. h k (omega arith))
 
-  target-of : (masks : Masks) (k : ℕ) → Heading m plan Usable state masks k
-      → Target m plan state masks k (targetOf m plan state masks k)
-  target-of masks k h =
-      record {
-        within = h .end-below;
-        fits = h .end-allowed;
-        nearest = λ t l a. Following.target-least m plan state masks k t l a;
-        smallest = λ t l a.
-            by-cases (leb (distanceTo m plan state k t) (distanceTo m plan state k (targetOf m plan state masks k)))
-            (λ e.
-            let n = least masks k t (omega (arith, h .end-below)) (near masks k t a (leb-true _ _ e)) in
-            absurd (omega arith))
-            (λ f. leb-false _ _ f);
-      }
+  lowered : {masks : Masks} {n k : ℕ} → k < n → HighestUnmet m plan state masks (suc n) k
+      → HighestUnmet m plan state masks n k
+  lowered l h = record { below = l; unmet = h .unmet; above-met = λ j a b. h .above-met j a (omega arith) }
 
-  highest : (masks : Masks) (k : ℕ) → met (groups m plan) masks state k ≡ false → HighestUnmet m plan state masks (suc k) k
+  -- fulfilling needs in the groups below k
+  abbrev fulfilBelow : ℕ → Masks → Reply Next
+  fulfilBelow k needs = fulfil m plan state needs k
+
+  -- the groups above the highest unmet one are passed over
+  fulfil-highest : {masks : Masks} (n : ℕ) {k : ℕ} → HighestUnmet m plan state masks n k
+      → fulfil m plan state masks n ≡ followBy m plan state (fulfilBelow k) masks k
+  fulfil-highest zero h = absurd (not-suc-le-zero (h .below))
+  fulfil-highest {masks} (suc n) {k} h =
+      ⊎-elim
+      (λ e. rw (← e) (Following.fulfil-unmet m plan state masks k (h .unmet)))
+      (λ l. Following.fulfil-met m plan state masks n (h .above-met n l (omega arith)) ∙ fulfil-highest n (lowered l h))
+      (last-or-below (h .below))
+
+  -- and its entry toward its target is followed
+  module _ {masks : Masks} {n : ℕ} (k q : ℕ) (h : HighestUnmet m plan state masks n k)
+      (t : Target m plan state masks k q) where
+    here : targetOf m plan state masks k ≡ q
+    here = target-only m plan state masks k t
+
+    fulfil-unfit : (Fit m plan state k (entryToward m plan state k q) → ⊥) → fulfil m plan state masks n ≡ refused 15 0
+    fulfil-unfit f =
+        fulfil-highest n h
+        ∙ Following.follow-unfit m plan state _ masks k
+        (rw here (true-of-not-false (λ u. f (test-fit m plan state k u))))
+
+    fulfil-fit : Fit m plan state k (entryToward m plan state k q)
+        → fulfil m plan state masks n
+        ≡ prepareBy m plan state (fulfilBelow k) k (moveToward m plan state k q)
+    fulfil-fit f =
+        fulfil-highest n h
+        ∙ Following.follow-fit m plan state _ masks k (rw here (fit-test m plan state k f))
+        ∙ ap (λ x. prepareBy m plan state (fulfilBelow k) k (moveToward m plan state k x)) here
+
+  picks-replied : {masks : Masks} {n : ℕ} {r : Reply Next} → Picks m plan state masks n r
+      → r ≡ fulfil m plan state masks n
+  picks-replied {masks} {n} (nothing-unmet h) = sym (fulfil-all-met masks n h)
+  picks-replied (held-up k q h t f) = sym (fulfil-unfit k q h t f)
+  picks-replied (sends k q h t f o) =
+      sym (fulfil-fit k q h t f ∙ Following.prepare-sends m plan state _ k _ (ready-test m plan state k _ o))
+  picks-replied (prepares k q h t f w p) =
+      picks-replied p
+      ∙ sym (fulfil-fit k q h t f ∙ Following.prepare-asks m plan state _ k _ (waits-test m plan state k _ w))
+
+  -- What is replied the method picks
+
+  highest : (masks : Masks) (k : ℕ) → met (groups m plan) masks state k ≡ false
+      → HighestUnmet m plan state masks (suc k) k
   highest masks k unmet =
       record { below = omega arith; unmet = unmet; above-met = λ j l h. absurd (omega arith) }
 
@@ -84,44 +98,47 @@ module _ {m : Model} {plan : List ℕ} {Usable : ℕ → Type 0} {longest cost :
         above-met = λ i l b. ⊎-elim (λ s. rw s e) (λ s. h .above-met i l s) (last-or-below b);
       }
 
-  lifted : {masks : Masks} {k : ℕ} {r : Next} → met (groups m plan) masks state k ≡ true → Picks m plan state masks k r
-      → Picks m plan state masks (suc k) r
+  lifted : {masks : Masks} {k : ℕ} {r : Reply Next} → met (groups m plan) masks state k ≡ true
+      → Picks m plan state masks k r → Picks m plan state masks (suc k) r
   lifted e (nothing-unmet f) = nothing-unmet (λ a h. ⊎-elim (λ i. rw i e) (λ i. f a i) (last-or-below h))
-  lifted e (sends j q h t o) = sends j q (raised e h) t o
-  lifted e (prepares j q h t o p) = prepares j q (raised e h) t o p
+  lifted e (held-up j q h t f) = held-up j q (raised e h) t f
+  lifted e (sends j q h t f o) = sends j q (raised e h) t f o
+  lifted e (prepares j q h t f w p) = prepares j q (raised e h) t f w p
 
-  pub picked : (g : ℕ) → g ≤ groupCount (groups m plan) → (masks : Masks) → Covered m plan masks state g
-      → (r : Next) × (fulfil m plan state masks g ≡ given r) × Picks m plan state masks g r
-  picked zero le masks c =
-      (done, Following.fulfil-none m plan state masks, nothing-unmet (λ a h. absurd (not-suc-le-zero h)))
-  picked (suc k) le masks c =
-      by-cases (met (groups m plan) masks state k)
-      (λ e.
-      let p = picked k (omega arith) masks (covered-below c) in
-      (p .0, Following.fulfil-met m plan state masks k e ∙ p .1, lifted e (p .2)))
-      (λ unmet.
-      let h = covered-heading valid laws sound masks k le unmet c in
-      let f = Following.fulfil-unmet m plan state masks k unmet
-      ∙ Following.follow-fit m plan state _ masks k (Heading.heading-fits valid laws sound masks k h) in
-      by-cases (holdsOutside m plan state k (moveAt m (firstMove m plan state masks k)))
-      (λ o. (
-        _,
-        f ∙ Following.prepare-sends m plan state _ k _ o,
-        sends k (targetOf m plan state masks k) (highest masks k unmet) (target-of masks k h) o,
-      ))
-      (λ o.
-      let p = picked k (omega arith) (needsOf m plan state masks k) (heading-needs-covered valid laws sound masks k h unmet c) in (
-        p .0,
-        f ∙ Following.prepare-asks m plan state _ k _ o ∙ p .1,
-        prepares k (targetOf m plan state masks k) (highest masks k unmet) (target-of masks k h) o (p .2),
-      )))
+  module _ (valid : Valid m) (shaped : wellShaped m plan ≡ true) where
+    replied-picks : (n : ℕ) (masks : Masks) → LeavesModes m masks
+        → Picks m plan state masks n (fulfil m plan state masks n)
+    replied-picks zero masks leaves =
+        rw (Following.fulfil-none m plan state masks) (nothing-unmet (λ k h. absurd (not-suc-le-zero h)))
+    replied-picks (suc k) masks leaves =
+        by-cases (met (groups m plan) masks state k)
+        (λ e. rw (Following.fulfil-met m plan state masks k e) (lifted e (replied-picks k masks leaves)))
+        (λ unmet.
+        let some = allowed-some m valid plan shaped masks leaves k in
+        let q = targetOf m plan state masks k in
+        let h = highest masks k unmet in
+        let t = target-right m plan state masks k (some .1) (some .2) in
+        by-cases (unfit m plan state k (entryToward m plan state k q))
+        (λ u.
+        let f : Fit m plan state k (entryToward m plan state k q) → ⊥ = λ f. true-false u (fit-test m plan state k f) in
+        rw (fulfil-unfit k q h t f) (held-up k q h t f))
+        (λ u.
+        let f = test-fit m plan state k u in
+        let v = moveToward m plan state k q in
+        by-cases (holdsOutside m plan state k v)
+        (λ o. rw (fulfil-fit k q h t f, Following.prepare-sends m plan state _ k v o)
+        (sends k q h t f (test-ready m plan state k v o)))
+        (λ o. rw (fulfil-fit k q h t f, Following.prepare-asks m plan state _ k v o)
+        (prepares k q h t f (test-waits m plan state k v o)
+        (replied-picks k _ (needs-leave m valid (groupsIn m plan) k _ (f .listed)))))))
 
 pub method-followed : MethodFollowed
-method-followed sheet plan state goal buffer scratch d parsed planned passes =
+method-followed sheet plan state goal d parsed shaped passes =
     let valid = parse-valid sheet parsed in
-    let laws = planned-lawful sheet plan buffer scratch d parsed planned in
     let parts = refusals-parts (d .model) plan state goal passes in
-    let sound = sound-state (d .model) state (parts .0) in
-    let covered = Facts.covered-exactly (d .model) valid plan (laws .shaped) (laws .byte-entries) state sound _ .0 (parts .2) in
-    let p = picked valid laws sound _ (omega arith) _ covered in
-    (p .0, next-fulfils sheet plan state goal d parsed (laws .shaped) (parts .0) (parts .1) (parts .2) ∙ p .1, p .2)
+    let leaves = goal-leaves (d .model) valid goal (parts .1) in
+    let e = next-fulfils sheet plan state goal d parsed shaped (parts .0) (parts .1) (parts .2) in
+    record {
+      picked = rw e (replied-picks (d .model) plan state valid shaped _ _ leaves);
+      alone = λ r p. picks-replied (d .model) plan state p ∙ sym e;
+    }

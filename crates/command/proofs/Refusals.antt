@@ -1,53 +1,80 @@
--- The refusals 16, 17 and 18 of a goal that is not covered: by which group, with which number, at which place.
+-- The refusal of a goal that is not covered: by which group, with which number, at which place.
 -- Assumes nothing.
 use Prim.Native.Nat.{ℕ}
-use mathlib.Core.Path.{_≡_, sym, _∙_}
-use mathlib.Core.Logic.{_⊎_}
-use mathlib.Core.List.{List}
-use mathlib.Core.Bool.{true, false}
-use Rattle.common.specs.Reply.{Reply, given, refused, clear, unless}
-use Rattle.common.proofs.Clear.{FirstOf, first-of, first-of-listed, first-of-refuses}
+use mathlib.Core.Path.{_≡_, sym, ap, _∙_}
+use mathlib.Core.Logic.{⊎-elim}
+use mathlib.Core.List.{List, []}
+use mathlib.Core.Bool.{true, false, cond, not}
+use borrow.Author.Tests.{not-true, not-false}
+use Rattle.common.specs.Reply.{Reply, Fault, clear, unless}
+use Rattle.common.proofs.Bools.{true-false, false-of-not-true, cond-false}
+use Rattle.common.proofs.Lists.{all-intro}
+use Rattle.common.proofs.Clear.{each-clear, clear-flatMap}
 use Rattle.sheet.specs.Model.{Model}
-use Rattle.sheet.specs.Parse.{Parsed, parse}
+use Rattle.sheet.specs.Valid.{Valid}
+use Rattle.sheet.proofs.Parsed.{parse-valid}
+use Rattle.plan.specs.Groups.{groupCount}
 use Rattle.plan.specs.Reading.{wellShaped}
-use Rattle.command.specs.State.{stateFaults, goalFaults}
-use Rattle.command.specs.Goal.{Masks, goalMasks}
-use Rattle.command.specs.Attainable.{attainFaults}
-use Rattle.command.specs.Next.{Next, nextReply}
-use Rattle.command.proofs.Asking.{next-reply}
-use Rattle.command.proofs.Causes.{attain-numbers, attain-refuses}
+use Rattle.command.specs.Goal.{Masks, met}
+use Rattle.command.specs.Ancestors.{downTo}
+use Rattle.command.specs.Attainable.{groups, groupFaults, attainFaults}
 use Rattle.command.specs.Uncovered.{Uncovered, UncoveredRefused}
+use Rattle.command.proofs.Shape.{Sound, sound-state}
+use Rattle.command.proofs.Highest.{Highest, find-down, downTo-below, unless-highest}
+use Rattle.command.proofs.Shown.{Small, bytes-small}
+use Rattle.command.proofs.Causes.{group-because, clear-passes}
+use Rattle.command.proofs.Asking.{next-reply}
 
--- a call that passes 1 to 8, 15, 13 and 14
-module _ (sheet plan state goal : List ℕ) (d : Parsed) (parses : parse sheet ≡ given d)
-    (shaped : wellShaped (d .model) plan ≡ true)
-    (state-good : clear (stateFaults (d .model) state) ≡ true)
-    (goal-good : clear (goalFaults (d .model) goal) ≡ true) where
-  abbrev m : Model
-  m = d .model
+module _ (m : Model) (plan state : List ℕ) (masks : Masks) where
+  abbrev count : ℕ
+  count = groupCount (groups m plan)
 
-  abbrev masks : Masks
-  masks = goalMasks m goal
+  -- the causes of one group: none where it is met
+  abbrev causesOf : ℕ → List Fault
+  causesOf k = cond (met (groups m plan) masks state k) [] (groupFaults m plan state masks k)
 
-  module _ (uncovered : clear (attainFaults (d .model) plan state (goalMasks (d .model) goal)) ≡ false) where
-    -- the first cause that applies, in the order of attainFaults, is a 16, a 17 or an 18, and refuses at its place
-    pub uncovered-refused : (first : FirstOf (attainFaults (d .model) plan state (goalMasks (d .model) goal)))
-        × ((first .cause .number ≡ 16) ⊎ ((first .cause .number ≡ 17) ⊎ (first .cause .number ≡ 18)))
-        × (nextReply sheet plan state goal ≡ refused (first .cause .number) (first .cause .place))
-    uncovered-refused =
-        let first = first-of (attainFaults m plan state masks) uncovered in
-        (first, attain-numbers m plan state masks (first-of-listed first), next-reply sheet plan state goal d parses shaped state-good goal-good ∙ first-of-refuses first _)
+  causes-are : (k : ℕ) → met (groups m plan) masks state k ≡ false → causesOf k ≡ groupFaults m plan state masks k
+  causes-are k f = cond-false _ _ f
 
-    -- whatever would have been given otherwise
-    pub uncovered-unless : (r : Reply Next)
-        → nextReply sheet plan state goal ≡ unless (attainFaults (d .model) plan state (goalMasks (d .model) goal)) r
-    uncovered-unless r =
-        let first = first-of (attainFaults m plan state masks) uncovered in
-        next-reply sheet plan state goal d parses shaped state-good goal-good ∙ (first-of-refuses first _ ∙ sym (first-of-refuses first r))
+  causes-unmet : (k : ℕ) → clear (causesOf k) ≡ false → met (groups m plan) masks state k ≡ false
+  causes-unmet k h = false-of-not-true (λ t. true-false (rw t (each-clear [] tt)) h)
 
-    -- the highest-numbered unmet group that has a cause refuses, by its lowest number
-    pub uncovered-because : Uncovered (d .model) plan state (goalMasks (d .model) goal) (nextReply sheet plan state goal)
-    uncovered-because = rw (next-reply sheet plan state goal d parses shaped state-good goal-good) (attain-refuses m plan state masks _ uncovered)
+  -- the highest-numbered unmet group that has a cause refuses
+  module _ (valid : Valid m) (shaped : wellShaped m plan ≡ true) (small : Small m plan) (sound : Sound m state) where
+    by-top : {A : Type 0} (r : Reply A) (k : ℕ) → Highest (λ k. not (clear (causesOf k))) count k
+        → Uncovered m plan state masks (unless (attainFaults m plan state masks) r)
+    unfolding attainFaults
+    by-top r k top =
+        let some : clear (causesOf k) ≡ false = not-true _ (top .has) in
+        let unmet = causes-unmet k some in
+        let b = group-because m plan state masks valid shaped small sound k r (top .below)
+        (sym (ap clear (causes-are k unmet)) ∙ some) in
+        record {
+          group = k;
+          below = top .below;
+          unmet = unmet;
+          higher-pass = λ b l h f. clear-passes m plan state masks valid shaped small sound b h
+              (sym (ap clear (causes-are b f)) ∙ not-false _ (top .none-above b l h));
+          number = b .0;
+          place = b .1;
+          because = b .2;
+          refuses = unless-highest causesOf count r top ∙ (ap (λ fs. unless fs r) (causes-are k unmet) ∙ b .3);
+        }
+
+    attain-refuses : {A : Type 0} (r : Reply A) → clear (attainFaults m plan state masks) ≡ false
+        → Uncovered m plan state masks (unless (attainFaults m plan state masks) r)
+    unfolding attainFaults
+    attain-refuses r h =
+        ⊎-elim
+        (λ top. by-top r _ top)
+        (λ none. absurd (true-false
+        (clear-flatMap causesOf (downTo count)
+        ∙ all-intro _ (downTo count) (λ k l. not-false _ (none .1 k (downTo-below count l)))) h))
+        (find-down (λ k. not (clear (causesOf k))) count count)
 
 pub uncovered : UncoveredRefused
-uncovered sheet plan state goal d parses shaped s g = uncovered-because sheet plan state goal d parses shaped s g
+uncovered sheet plan state goal d parsed shaped bytes state-good goal-good fails =
+    let m = d .model in
+    rw (next-reply sheet plan state goal d parsed shaped state-good goal-good)
+    (attain-refuses m plan state _ (parse-valid sheet parsed) shaped (bytes-small m plan bytes)
+    (sound-state m state state-good) _ fails)

@@ -13,7 +13,7 @@ use Rattle.common.proofs.Least.{last-or-below}
 use Rattle.sheet.specs.Model.{Model, moveAt}
 use Rattle.sheet.specs.Valid.{Valid}
 use Rattle.plan.specs.Groups.{groupCount}
-use Rattle.plan.specs.Laws.{PlanLaws}
+use Rattle.plan.specs.Laws.{TableLaws, RouteLaws}
 use Rattle.command.specs.Goal.{Masks, met}
 use Rattle.command.specs.Attainable.{groups}
 use Rattle.command.specs.Covered.{Covered}
@@ -54,33 +54,26 @@ covered-below c =
       itself-live = λ k h. c .itself-live k (omega arith);
       upstream-live = λ k a h. c .upstream-live k a (omega arith);
       attains = λ k h. c .attains k (omega arith);
-      no-dead-end = λ k a q h. c .no-dead-end k a q (omega arith);
+      no-dead-end = λ k a h. c .no-dead-end k a (omega arith);
     }
 
-module _ {m : Model} {plan : List ℕ} {Usable : ℕ → Type 0} {longest cost : ℕ → ℕ} (valid : Valid m)
-    (laws : PlanLaws m plan Usable longest cost) {state : List ℕ} (sound : Sound m state) where
+module _ {m : Model} {plan : List ℕ} {Usable : ℕ → Type 0} {longest : ℕ → ℕ} (valid : Valid m)
+    (tables : TableLaws m plan Usable longest) {state : List ℕ} (sound : Sound m state) where
   abbrev N : ℕ
   N = groupCount (groups m plan)
 
-  -- an unmet group of a covered goal has its entry, and the needs of the entry's move are covered
+  -- an unmet group of a covered goal has its entry
   pub covered-heading : (masks : Masks) (k : ℕ) → k < N → met (groups m plan) masks state k ≡ false
       → Covered m plan masks state (suc k) → Heading m plan Usable state masks k
   covered-heading masks k below unmet c =
-      Heading.heading valid laws sound masks k below unmet (c .attains k (omega arith) unmet)
-
-  pub heading-needs-covered : (masks : Masks) (k : ℕ) → Heading m plan Usable state masks k
-      → met (groups m plan) masks state k ≡ false → Covered m plan masks state (suc k)
-      → Covered m plan (needsOf m plan state masks k) state k
-  heading-needs-covered masks k h unmet c =
-      Heading.needs-covered valid laws sound k _ (h .member) (h .usable)
-      (λ a u. c .upstream-live k a (omega arith) unmet u)
+      Heading.heading valid tables sound masks k below unmet (c .attains k (omega arith) unmet)
 
   follows : (masks : Masks) (k : ℕ) → met (groups m plan) masks state k ≡ false → Heading m plan Usable state masks k
       → fulfil m plan state masks (suc k)
       ≡ prepareBy m plan state (λ needs. fulfil m plan state needs k) k (moveAt m (firstMove m plan state masks k))
   follows masks k unmet h =
       Following.fulfil-unmet m plan state masks k unmet
-      ∙ Following.follow-fit m plan state _ masks k (Heading.heading-fits valid laws sound masks k h)
+      ∙ Following.follow-fit m plan state _ masks k (Heading.heading-fits valid tables sound masks k h)
 
   commanded-lower : (masks : Masks) (k : ℕ) → met (groups m plan) masks state k ≡ true
       → Commanded m plan Usable state masks k → Commanded m plan Usable state masks (suc k)
@@ -117,20 +110,30 @@ module _ {m : Model} {plan : List ℕ} {Usable : ℕ → Type 0} {longest cost :
         replies = follows masks k unmet h ∙ Following.prepare-asks m plan state _ k _ o ∙ c .replies;
       }
 
+module _ {m : Model} {plan : List ℕ} {Usable : ℕ → Type 0} {longest : ℕ → ℕ} (valid : Valid m)
+    (tables : TableLaws m plan Usable longest) (routes : RouteLaws m plan Usable) {state : List ℕ} (sound : Sound m state) where
+  -- the needs of the entry's move are covered
+  pub heading-needs-covered : (masks : Masks) (k : ℕ) → Heading m plan Usable state masks k
+      → met (groups m plan) masks state k ≡ false → Covered m plan masks state (suc k)
+      → Covered m plan (needsOf m plan state masks k) state k
+  heading-needs-covered masks k h unmet c =
+      Heading.needs-covered valid tables sound k _ (h .member) (h .usable) routes
+      (λ a u. c .upstream-live k a (omega arith) unmet u)
+
   -- a covered goal is fulfilled, or a command is given
-  pub done-or-commanded : (g : ℕ) → g ≤ N → (masks : Masks) → Covered m plan masks state g
+  pub done-or-commanded : (g : ℕ) → g ≤ groupCount (groups m plan) → (masks : Masks) → Covered m plan masks state g
       → ((fulfil m plan state masks g ≡ given done) × AllMet m plan state masks g)
       ⊎ Commanded m plan Usable state masks g
   done-or-commanded zero le masks c = inl (Following.fulfil-none m plan state masks, λ a h. absurd (not-suc-le-zero h))
   done-or-commanded (suc k) le masks c =
       by-cases (met (groups m plan) masks state k)
-      (λ e. ⊎-elim (λ d. inl (rest e d)) (λ r. inr (commanded-lower masks k e r))
+      (λ e. ⊎-elim (λ d. inl (rest e d)) (λ r. inr (commanded-lower valid tables sound masks k e r))
       (done-or-commanded k (omega arith) masks (covered-below c)))
       (λ unmet.
-      let h = covered-heading masks k le unmet c in
+      let h = covered-heading valid tables sound masks k le unmet c in
       by-cases (holdsOutside m plan state k (moveAt m (firstMove m plan state masks k)))
-      (λ o. inr (commanded-own masks k unmet h o))
-      (λ o. inr (commanded-prepares masks k unmet h o (⊎-elim (λ d. absurd (fails h o (d .1))) (λ r. r)
+      (λ o. inr (commanded-own valid tables sound masks k unmet h o))
+      (λ o. inr (commanded-prepares valid tables sound masks k unmet h o (⊎-elim (λ d. absurd (fails h o (d .1))) (λ r. r)
       (done-or-commanded k (omega arith) (needsOf m plan state masks k) (heading-needs-covered masks k h unmet c))))))
     where
       rest : met (groups m plan) masks state k ≡ true
@@ -145,5 +148,5 @@ module _ {m : Model} {plan : List ℕ} {Usable : ℕ → Type 0} {longest cost :
           → holdsOutside m plan state k (moveAt m (firstMove m plan state masks k)) ≡ false
           → AllMet m plan state (needsOf m plan state masks k) k → ⊥
       fails h o all =
-          let r = Facts.needs-fail m valid plan (laws .shaped) k _ (h .member) state sound o in
+          let r = Facts.needs-fail m valid plan (tables .shaped) k _ (h .member) state sound o in
           true-false (all (r .0) (r .1)) (r .2)

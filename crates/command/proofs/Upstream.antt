@@ -15,85 +15,90 @@ use Rattle.common.proofs.Graph.{chain-append, chain-invariant, successor-of-nod
 use Rattle.common.proofs.Graph.{connected-chain, chain-connected}
 use Rattle.sheet.specs.Model.{Model}
 use Rattle.sheet.specs.Valid.{Valid}
-use Rattle.plan.specs.Groups.{Grouping, groupCount, movesOf, namedOutside}
+use Rattle.plan.specs.Groups.{Grouping, groupCount, namedOutside}
 use Rattle.plan.specs.Reading.{groupsIn, wellShaped}
-use Rattle.plan.proofs.Named.{named-below, named-other, named-lower}
-use Rattle.command.specs.Ancestors.{groupGraph, upstream}
+use Rattle.plan.specs.Laws.{counted}
+use Rattle.plan.proofs.Named.{named-below, named-other, named-more, named-lower}
+use Rattle.plan.proofs.Counted.{counted-moves}
+use Rattle.command.specs.Ancestors.{groupGraph, upstream, upstreamIn}
 use Rattle.command.proofs.Shape.{shape-first}
 
 -- the graph of groups
-module _ (m : Model) (groups : Grouping) where
-  pub length-groupGraph : length (groupGraph m groups) ≡ groupCount groups
+module _ (m : Model) (groups : Grouping) (counting : ℕ → List ℕ) where
+  pub length-groupGraph : length (groupGraph m groups counting) ≡ groupCount groups
   unfolding groupGraph
   length-groupGraph = length-map-upTo _ (groupCount groups)
 
   pub groupGraph-at : (k : ℕ) → k < groupCount groups
-      → successors (groupGraph m groups) k ≡ namedOutside m groups k (movesOf m groups k)
+      → successors (groupGraph m groups counting) k ≡ namedOutside m groups k (counting k)
   unfolding groupGraph successors
   groupGraph-at k h = getD-map-upTo _ [] h
 
   -- a successor is named
-  pub groupGraph-names : (k a : ℕ) → List·Memᴰ a (successors (groupGraph m groups) k)
-      → List·Memᴰ a (namedOutside m groups k (movesOf m groups k))
+  pub groupGraph-names : (k a : ℕ) → List·Memᴰ a (successors (groupGraph m groups counting) k)
+      → List·Memᴰ a (namedOutside m groups k (counting k))
   groupGraph-names k a l =
-      rw (groupGraph-at k (omega (arith, length-groupGraph, successor-of-node (groupGraph m groups) k l))) at l
+      rw (groupGraph-at k (omega (arith, length-groupGraph, successor-of-node (groupGraph m groups counting) k l))) at l
 
   -- upstream: another group, at the end of a chain
-  pub upstream-other : (k a : ℕ) → upstream m groups k a ≡ true → a ≡ k → ⊥
+  pub upstream-other : (k a : ℕ) → upstream m groups counting k a ≡ true → a ≡ k → ⊥
   unfolding upstream
   upstream-other k a h = eqb-false a k (not-true _ (and-left _ _ h))
 
-  pub upstream-chain : (k a : ℕ) → upstream m groups k a ≡ true → (d : ℕ) × Chain (groupGraph m groups) d k a
+  pub upstream-chain : (k a : ℕ) → upstream m groups counting k a ≡ true → (d : ℕ) × Chain (groupGraph m groups counting) d k a
   unfolding upstream
-  upstream-chain k a h = connected-chain (groupGraph m groups) k a (and-right (not (eqb a k)) _ h)
+  upstream-chain k a h = connected-chain (groupGraph m groups counting) k a (and-right (not (eqb a k)) _ h)
 
-  pub upstream-nodes : (k a : ℕ) → upstream m groups k a ≡ true → (k < groupCount groups) × (a < groupCount groups)
+  pub upstream-nodes : (k a : ℕ) → upstream m groups counting k a ≡ true → (k < groupCount groups) × (a < groupCount groups)
   unfolding upstream
   upstream-nodes k a h =
-      let g = groupGraph m groups in
+      let g = groupGraph m groups counting in
       let below = distance-below g k a (and-right (not (eqb a k)) _ h) in
       let nodes = between-nodes g k a (omega arith) in
       (omega (arith, length-groupGraph), omega (arith, length-groupGraph))
 
-  pub chain-upstream : {d : ℕ} (k a : ℕ) → (a ≡ k → ⊥) → a < groupCount groups → Chain (groupGraph m groups) d k a
-      → upstream m groups k a ≡ true
+  pub chain-upstream : {d : ℕ} (k a : ℕ) → (a ≡ k → ⊥) → a < groupCount groups → Chain (groupGraph m groups counting) d k a
+      → upstream m groups counting k a ≡ true
   unfolding upstream
   chain-upstream k a n h c =
       and-intro
       (not-of-false (ne-eqb a k n))
-      (chain-connected (groupGraph m groups) k a (omega (arith, length-groupGraph)) c)
+      (chain-connected (groupGraph m groups counting) k a (omega (arith, length-groupGraph)) c)
 
+-- under a plan
 module _ (m : Model) (valid : Valid m) (plan : List ℕ) (shaped : wellShaped m plan ≡ true) where
-  pub named-upstream : (k a : ℕ) → List·Memᴰ a (namedOutside m (groupsIn m plan) k (movesOf m (groupsIn m plan) k))
-      → k < groupCount (groupsIn m plan) → upstream m (groupsIn m plan) k a ≡ true
-  named-upstream k a h b =
-      let groups = groupsIn m plan in
-      let moves = movesOf m groups k in
-      chain-upstream m groups k a (named-other m groups k moves h) (named-below m groups k moves h)
-      (step a (rw (groupGraph-at m groups k b) h) here)
+  abbrev own : Grouping
+  own = groupsIn m plan
 
-  pub upstream-below : (k a : ℕ) → upstream m (groupsIn m plan) k a ≡ true → a < k
+  pub named-upstream : (k a : ℕ) → List·Memᴰ a (namedOutside m (groupsIn m plan) k (counted m plan k))
+      → k < groupCount (groupsIn m plan) → upstreamIn m plan k a ≡ true
+  named-upstream k a h b =
+      let moves = counted m plan k in
+      chain-upstream m own (counted m plan) k a (named-other m own k moves h) (named-below m own k moves h)
+      (step a (rw (groupGraph-at m own (counted m plan) k b) h) here)
+
+  -- what a group names is lower
+  named-falls : (k a : ℕ) → List·Memᴰ a (namedOutside m own k (counted m plan k)) → a < k
+  named-falls k a l =
+      named-lower m own k (shape-first m plan shaped)
+      (named-more m own k (counted m plan k) (λ v. counted-moves m plan k) l)
+
+  pub upstream-below : (k a : ℕ) → upstreamIn m plan k a ≡ true → a < k
   upstream-below k a h =
-      let groups = groupsIn m plan in
-      let low : a ≤ k = chain-invariant (λ x. x ≤ k) falling (upstream-chain m groups k a h .1) (omega arith) in
-      let other : a ≡ k → ⊥ = upstream-other m groups k a h in
+      let low : a ≤ k = chain-invariant (λ x. x ≤ k) falling (upstream-chain m own (counted m plan) k a h .1) (omega arith) in
+      let other : a ≡ k → ⊥ = upstream-other m own (counted m plan) k a h in
       omega arith
     where
-      falling : (x y : ℕ) → List·Memᴰ y (successors (groupGraph m (groupsIn m plan)) x) → x ≤ k → y ≤ k
-      falling x y l p =
-          omega (
-            arith,
-            named-lower m (groupsIn m plan) x (shape-first m plan shaped) (groupGraph-names m (groupsIn m plan) x y l),
-          )
+      falling : (x y : ℕ) → List·Memᴰ y (successors (groupGraph m own (counted m plan)) x) → x ≤ k → y ≤ k
+      falling x y l p = omega (arith, named-falls x y (groupGraph-names m own (counted m plan) x y l))
 
-  pub upstream-count : (k a : ℕ) → upstream m (groupsIn m plan) k a ≡ true → k < groupCount (groupsIn m plan)
-  upstream-count k a h = upstream-nodes m (groupsIn m plan) k a h .0
+  pub upstream-count : (k a : ℕ) → upstreamIn m plan k a ≡ true → k < groupCount (groupsIn m plan)
+  upstream-count k a h = upstream-nodes m own (counted m plan) k a h .0
 
-  pub upstream-trans : (k a b : ℕ) → upstream m (groupsIn m plan) k a ≡ true → upstream m (groupsIn m plan) a b ≡ true
-      → upstream m (groupsIn m plan) k b ≡ true
+  pub upstream-trans : (k a b : ℕ) → upstreamIn m plan k a ≡ true → upstreamIn m plan a b ≡ true
+      → upstreamIn m plan k b ≡ true
   upstream-trans k a b h l =
-      let groups = groupsIn m plan in
-      chain-upstream m groups k b
+      chain-upstream m own (counted m plan) k b
       (omega (arith, upstream-below k a h, upstream-below a b l))
-      (upstream-nodes m groups a b l .1)
-      (chain-append (upstream-chain m groups k a h .1) (upstream-chain m groups a b l .1))
+      (upstream-nodes m own (counted m plan) a b l .1)
+      (chain-append (upstream-chain m own (counted m plan) k a h .1) (upstream-chain m own (counted m plan) a b l .1))

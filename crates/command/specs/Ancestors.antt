@@ -9,29 +9,36 @@ use Rattle.common.specs.Lists.{upTo}
 use Rattle.common.specs.Graph.{Graph, distances, connected}
 use Rattle.sheet.specs.Model.{Model}
 use Rattle.sheet.specs.Valid.{Valid}
-use Rattle.plan.specs.Groups.{Grouping, groupCount, movesOf, namedOutside}
+use Rattle.plan.specs.Groups.{Grouping, groupCount, namedOutside}
+use Rattle.plan.specs.Meaning.{NamesOutside}
 use Rattle.plan.specs.Reading.{groupsIn, wellShaped}
+use Rattle.plan.specs.Laws.{counted}
 
 -- n - 1, .. 1, 0
 unfoldable pub downTo : ℕ → List ℕ
 downTo zero = []
 downTo (suc n) = n ∷ downTo n
 
--- for each group, the outside groups that its moves name
-unfoldable pub groupGraph : Model → Grouping → Graph
-groupGraph m groups = map (λ k. namedOutside m groups k (movesOf m groups k)) (upTo (groupCount groups))
+-- Given for each group those of its moves that count as naming other groups
+module _ (m : Model) (groups : Grouping) (counting : ℕ → List ℕ) where
+  -- for each group, the outside groups that its moves name
+  unfoldable pub groupGraph : Graph
+  groupGraph = map (λ k. namedOutside m groups k (counting k)) (upTo (groupCount groups))
 
--- group a is upstream of group k
-unfoldable pub upstream : Model → Grouping → ℕ → ℕ → Bool
-upstream m groups k a = not (eqb a k) && connected (distances (groupGraph m groups)) k a
+  -- group a is upstream of group k
+  unfoldable pub upstream : ℕ → ℕ → Bool
+  upstream k a = not (eqb a k) && connected (distances groupGraph) k a
 
--- What it means: a group that the moves of k name, or that is upstream of one that they name.
-pub data Ancestor (m : Model) (groups : Grouping) : ℕ → ℕ → Type 0 where
-  direct : {k a : ℕ} → List·Memᴰ a (namedOutside m groups k (movesOf m groups k)) → Ancestor m groups k a
-  through : {k a : ℕ} (b : ℕ) → List·Memᴰ b (namedOutside m groups k (movesOf m groups k)) → Ancestor m groups b a
-      → Ancestor m groups k a
+  -- What it means: a group that the moves of k name, or that is upstream of one that they name.
+  pub data Ancestor : ℕ → ℕ → Type 0 where
+    direct : {k a : ℕ} (v : ℕ) → List·Memᴰ v (counting k) → NamesOutside m groups v a → Ancestor k a
+    through : {k a : ℕ} (v b : ℕ) → List·Memᴰ v (counting k) → NamesOutside m groups v b → Ancestor b a → Ancestor k a
+
+-- upstream under a plan
+abbrev pub upstreamIn : Model → List ℕ → ℕ → ℕ → Bool
+upstreamIn m plan = upstream m (groupsIn m plan) (counted m plan)
 
 abbrev pub UpstreamRight : Type 0
 UpstreamRight =
     (m : Model) (plan : List ℕ) (k a : ℕ) → Valid m → wellShaped m plan ≡ true → k < groupCount (groupsIn m plan)
-    → (upstream m (groupsIn m plan) k a ≡ true) ↔ Ancestor m (groupsIn m plan) k a
+    → (upstreamIn m plan k a ≡ true) ↔ Ancestor m (groupsIn m plan) (counted m plan) k a

@@ -1,15 +1,15 @@
 -- Applying a command: by the move that acts, or none.
-use Prim.Native.Nat.{ℕ}
-use mathlib.Core.List.{List}
-use mathlib.Core.Bool.{Bool, cond, _&&_}
-use lib.ListN.{set}
+use Prim.Native.Nat.{ℕ, _<_}
+use mathlib.Core.Path.{_≡_}
+use mathlib.Core.List.{List, List·Memᴰ}
+use mathlib.Core.Bool.{Bool, true, cond, _&&_}
 use lib.Dec.{eqb, ltb}
 use Rattle.common.specs.Lists.{upTo, all, find}
 use Rattle.common.specs.Bits.{bit}
 use Rattle.common.specs.Reply.{Reply, given, refused, unless, andThen}
-use Rattle.sheet.specs.Model.{Model, moveCount, moveAt}
+use Rattle.sheet.specs.Model.{Guard, Model, moveCount, moveAt}
 use Rattle.sheet.specs.Parse.{parse}
-use Rattle.command.specs.State.{modeOf, stateFaults}
+use Rattle.command.specs.State.{modeOf, withMode, stateFaults}
 
 -- no move
 abbrev pub noneActs : ℕ
@@ -24,12 +24,20 @@ module _ (m : Model) (state : List ℕ) (machine command : ℕ) where
       && eqb (moveAt m v .command) command
       && all (λ g. bit (g .mask) (modeOf state (g .machine))) (moveAt m v .guards)
 
+  -- What it means, need by need.
+  pub record Answers (v : ℕ) : Type 0 where
+    pub there : v < moveCount m
+    pub its-machine : moveAt m v .machine ≡ machine
+    pub its-from : moveAt m v .from ≡ modeOf state machine
+    pub its-byte : moveAt m v .command ≡ command
+    pub its-needs : (g : Guard) → List·Memᴰ g (moveAt m v .guards) → bit (g .mask) (modeOf state (g .machine)) ≡ true
+
   unfoldable pub actingMove : ℕ
   actingMove = find acts (upTo (moveCount m)) noneActs
 
   -- the state with the acting move made, or as it was
   unfoldable pub stateBy : List ℕ
-  stateBy = cond (eqb actingMove noneActs) state (set state machine (moveAt m actingMove .to))
+  stateBy = cond (eqb actingMove noneActs) state (withMode state machine (moveAt m actingMove .to))
 
 -- the move that acted, 255 for none, and the state afterwards
 pub record Applied : Type 0 where

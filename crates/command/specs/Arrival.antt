@@ -4,28 +4,33 @@ use mathlib.Core.Path.{_≡_}
 use mathlib.Core.Logic.{_↔_}
 use mathlib.Core.List.{List, _∷_, _++_}
 use mathlib.Core.Bool.{Bool, true}
-use lib.ListN.{set}
+use lib.ListN.{length}
+use Rattle.common.specs.Bits.{bit}
 use Rattle.common.specs.Reply.{given, clear}
-use Rattle.sheet.specs.Model.{Model, moveCount, moveAt}
+use Rattle.sheet.specs.Record.{byte}
+use Rattle.sheet.specs.Model.{Model, machineCount, moveCount, moveAt}
 use Rattle.sheet.specs.Parse.{Parsed, parse}
-use Rattle.plan.specs.Groups.{groupCount}
+use Rattle.plan.specs.Groups.{groupOf, groupCount}
 use Rattle.plan.specs.Laws.{PlanLaws}
 use Rattle.plan.specs.Planning.{planReply}
 use Rattle.plan.specs.Reading.{groupsIn, boundIn}
-use Rattle.command.specs.State.{modeOf}
-use Rattle.command.specs.Goal.{goalMasks, met}
-use Rattle.command.specs.Next.{Next, done, command, nextReply, goalRefusals}
-use Rattle.command.specs.Apply.{acts, applyReply}
-use Rattle.command.specs.Run.{Call, ask, apply, some, Situation, begins, afterAll, Run}
+use Rattle.command.specs.State.{modeOf, withMode}
+use Rattle.command.specs.Next.{Next, done, command, goalRefusals}
+use Rattle.command.specs.Apply.{Answers, applyReply}
+use Rattle.command.specs.Run.{Lent, askReply, Call, ask, apply, some, Situation, begins, afterAll, Run}
 
-module _ (sheet plan goal : List ℕ) (m : Model) where
-  -- "as wished": group k is met
+module _ (lent : Lent) (m : Model) where
+  -- "as wished": machine i is in a mode that its byte of the goal holds; past the goal's end any mode is
+  abbrev pub MachineAsWished : List ℕ → ℕ → Type 0
+  MachineAsWished state i = i < length (lent .goal) → bit (byte (lent .goal) i) (modeOf state i) ≡ true
+
+  -- every machine of group k is as wished
   abbrev pub AsWished : List ℕ → ℕ → Type 0
-  AsWished state k = met (groupsIn m plan) (goalMasks m goal) state k ≡ true
+  AsWished state k = (i : ℕ) → i < machineCount m → groupOf (groupsIn m (lent .plan)) i ≡ k → MachineAsWished state i
 
   -- all groups from g upward are as wished
   abbrev pub AsWishedFrom : List ℕ → ℕ → Type 0
-  AsWishedFrom state g = (k : ℕ) → g ≤ k → k < groupCount (groupsIn m plan) → AsWished state k
+  AsWishedFrom state g = (k : ℕ) → g ≤ k → k < groupCount (groupsIn m (lent .plan)) → AsWished state k
 
   -- "reached": every group is as wished
   abbrev pub Reached : List ℕ → Type 0
@@ -34,14 +39,14 @@ module _ (sheet plan goal : List ℕ) (m : Model) where
   -- what asking replies in a situation
   pub record Asked (s : Situation) : Type 0 where
     -- the reply is no refusal
-    pub answered : (r : Next) × (nextReply sheet plan (s .state) goal ≡ given r)
+    pub answered : (r : Next) × (askReply lent (s .state) ≡ given r)
     -- done if the goal is reached, and only then
-    pub done-exactly : (nextReply sheet plan (s .state) goal ≡ given done) ↔ Reached (s .state)
-    -- a command that is given acts: some move answers it
-    pub finds-needs : (i c : ℕ) → nextReply sheet plan (s .state) goal ≡ given (command i c)
-        → (v : ℕ) × (v < moveCount m) × (acts m (s .state) i c v ≡ true)
+    pub done-exactly : (askReply lent (s .state) ≡ given done) ↔ Reached (s .state)
+    -- a command that is given finds its needs met: some move answers it
+    pub finds-needs : (i c : ℕ) → askReply lent (s .state) ≡ given (command i c)
+        → (v : ℕ) × Answers m (s .state) i c v
     -- and there is room left under the bound
-    pub within-bound : (i c : ℕ) → nextReply sheet plan (s .state) goal ≡ given (command i c) → s .applied < boundIn m plan
+    pub within-bound : (i c : ℕ) → askReply lent (s .state) ≡ given (command i c) → s .applied < boundIn m (lent .plan)
 
   -- what applying the pending command does
   pub record Moved (s : Situation) : Type 0 where
@@ -52,42 +57,42 @@ module _ (sheet plan goal : List ℕ) (m : Model) where
     pub present : move < moveCount m
     pub its-own : moveAt m move .machine ≡ machine
     -- applying is not refused, and the machine has moved: from the move's from mode to its to mode, which differs
-    pub applies : applyReply sheet (s .state) machine byte
-        ≡ given (record { move = move; state = set (s .state) machine (moveAt m move .to) })
+    pub applies : applyReply (lent .sheet) (s .state) machine byte
+        ≡ given (record { move = move; state = withMode (s .state) machine (moveAt m move .to) })
     pub was : modeOf (s .state) machine ≡ moveAt m move .from
-    pub is-now : modeOf (set (s .state) machine (moveAt m move .to)) machine ≡ moveAt m move .to
+    pub is-now : modeOf (withMode (s .state) machine (moveAt m move .to)) machine ≡ moveAt m move .to
     pub differs : moveAt m move .from ≡ moveAt m move .to → ⊥
 
   -- the promise about a list of calls from a situation
   pub record Promise (start : Situation) (calls : List Call) : Type 0 where
-    pub asking : (before later : List Call) → calls ≡ before ++ (ask ∷ later) → Asked (afterAll sheet plan goal start before)
-    pub applying : (before later : List Call) → calls ≡ before ++ (apply ∷ later) → Moved (afterAll sheet plan goal start before)
+    pub asking : (before later : List Call) → calls ≡ before ++ (ask ∷ later) → Asked (afterAll lent start before)
+    pub applying : (before later : List Call) → calls ≡ before ++ (apply ∷ later) → Moved (afterAll lent start before)
     -- no more commands than the bound, and by then the goal is reached
-    pub within : afterAll sheet plan goal start calls .applied ≤ boundIn m plan
+    pub within : afterAll lent start calls .applied ≤ boundIn m (lent .plan)
     pub arrives : (before later : List Call) → calls ≡ before ++ later
-        → boundIn m plan ≤ afterAll sheet plan goal start before .applied → Reached (afterAll sheet plan goal start before .state)
+        → boundIn m (lent .plan) ≤ afterAll lent start before .applied → Reached (afterAll lent start before .state)
     -- groups from g upward that are all met at some call are all met ever after
     pub stays : (before between later : List Call) → calls ≡ before ++ (between ++ later) → (g : ℕ)
-        → AsWishedFrom (afterAll sheet plan goal start before .state) g
-        → AsWishedFrom (afterAll sheet plan goal start (before ++ between) .state) g
+        → AsWishedFrom (afterAll lent start before .state) g
+        → AsWishedFrom (afterAll lent start (before ++ between) .state) g
 
 -- With a sheet and the plan that planning wrote for it, and a state and goal for which none of 13, 14 and 16 to 18 applies,
 -- every list of calls that is a run keeps the promise.
 abbrev pub Arrival : Type 0
 Arrival =
-    (sheet plan state goal : List ℕ) (buffer scratch : ℕ) (d : Parsed) (calls : List Call)
-    → parse sheet ≡ given d
-    → planReply sheet buffer scratch ≡ given plan
-    → clear (goalRefusals (d .model) plan state goal) ≡ true
-    → Run sheet plan goal (begins state) calls
-    → Promise sheet plan goal (d .model) (begins state) calls
+    (lent : Lent) (state : List ℕ) (buffer scratch : ℕ) (d : Parsed) (calls : List Call)
+    → parse (lent .sheet) ≡ given d
+    → planReply (lent .sheet) buffer scratch ≡ given (lent .plan)
+    → clear (goalRefusals (d .model) (lent .plan) state (lent .goal)) ≡ true
+    → Run lent (begins state) calls
+    → Promise lent (d .model) (begins state) calls
 
 -- The same for any plan that has the laws, whoever wrote it; `usable` says which moves it counts as usable.
 abbrev pub ArrivalOfLaws : Type 0
 ArrivalOfLaws =
-    (sheet plan state goal : List ℕ) (d : Parsed) (usable : ℕ → Bool) (longest cost : ℕ → ℕ) (calls : List Call)
-    → parse sheet ≡ given d
-    → PlanLaws (d .model) plan (λ v. usable v ≡ true) longest cost
-    → clear (goalRefusals (d .model) plan state goal) ≡ true
-    → Run sheet plan goal (begins state) calls
-    → Promise sheet plan goal (d .model) (begins state) calls
+    (lent : Lent) (state : List ℕ) (d : Parsed) (usable : ℕ → Bool) (longest cost : ℕ → ℕ) (calls : List Call)
+    → parse (lent .sheet) ≡ given d
+    → PlanLaws (d .model) (lent .plan) (λ v. usable v ≡ true) longest cost
+    → clear (goalRefusals (d .model) (lent .plan) state (lent .goal)) ≡ true
+    → Run lent (begins state) calls
+    → Promise lent (d .model) (begins state) calls

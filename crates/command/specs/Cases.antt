@@ -1,8 +1,9 @@
 -- "A stove, and other cases": cases 1 to 8 as rows of one table over the definitions, and rows for what they leave out.
 use mathlib.Core.Path.{_≡_, refl}
 use Prim.Native.Nat.{ℕ}
-use mathlib.Core.List.{List, [], _∷_, flatMap}
+use mathlib.Core.List.{List, [], _∷_, _++_, flatMap}
 use mathlib.Core.Bool.{true}
+use lib.ListN.{take, drop}
 use Rattle.common.specs.Bits.{bit, beyond}
 use Rattle.common.specs.Graph.{successors, marked, single, grown, layersFrom, layers, distancesTo, distances, between, connected}
 use Rattle.common.specs.Lists.{upTo, all, any, filter, position, find, sum, product, maximum}
@@ -11,112 +12,35 @@ use Rattle.sheet.specs.Record.{word, recordAt, part, twoBytes, recordOf}
 use Rattle.sheet.specs.Model.{Model, moveOf, withMachine, withMove}
 use Rattle.sheet.specs.Faults.{wrongMoveLength, badMachine, badMove, badGuard, badGuards, sameMove, badCommand}
 use Rattle.sheet.specs.Faults.{machineFaults, moveFaults, endFaults, faultsOf}
-use Rattle.sheet.specs.Parse.{Parsed, nothing, extended, turnAt, parseFrom, parse}
+use Rattle.sheet.specs.Parse.{extended, turnAt, parseFrom, parse}
 use Rattle.plan.specs.Needs.{names, needs, needGraph}
 use Rattle.plan.specs.Groups.{Grouping, groupCount, members, smallestMember, together, numbered, ready, withNumber, numberedUpto, groupsOf}
 use Rattle.plan.specs.Groups.{movesOf, namesGroup, namedOutside}
 use Rattle.plan.specs.Modes.{size, weight, modeNumber, modeIn, liveMode, shifted}
-use Rattle.plan.specs.Usable.{meets, leads, target, alwaysMet, usable}
+use Rattle.plan.specs.Usable.{meets, leads, landing, target, alwaysMet, usable}
 use Rattle.plan.specs.Routes.{usableMoves, moveGraph, routesIn, routesUpto}
 use Rattle.plan.specs.Table.{starts, entryOf, tableOf}
-use Rattle.plan.specs.Bound.{longest, costIn, costsUpto, boundOf}
+use Rattle.plan.specs.Bound.{longest, costIn, costsUpto, boundOf, planBound}
 use Rattle.plan.specs.Bytes.{fourBytes, tableIn, bytesOf, tableLength, tableAt, planLength}
 use Rattle.plan.specs.Planning.{large, largeGroup, largePlace, largePlan, largeBound, sizeFaults, wrongBuffer, ownPlan, lengthReply, planReply}
+use Rattle.plan.specs.Laws.{counted}
 use Rattle.plan.specs.Reading.{groupsIn, tableOfGroup, entryIn, entryAt, hasRecord, gapless, needsFirst, fitsRecords, wellShaped, boundIn}
-use Rattle.command.specs.State.{absentMode, stateFaults, badByte, goalFaults}
+use Rattle.command.specs.State.{modes, withMode, absentMode, stateFaults, badByte, goalFaults}
 use Rattle.command.specs.Goal.{goalMasks, guardMasks, met, allowed}
 use Rattle.command.specs.Ancestors.{downTo, groupGraph, upstream}
 use Rattle.command.specs.Attainable.{liveGroup, attains, deadEnd, highest, faultOf, groupFaults, attainFaults}
 use Rattle.command.specs.Next.{Next, done, command, nearest, targetOf, holdsInside, holdsOutside, unfit, prepareBy, followBy, fulfil}
 use Rattle.command.specs.Next.{goalRefusals, misshapen, nextReply}
 use Rattle.command.specs.Apply.{Applied, acts, actingMove, stateBy, applyReply}
-use Rattle.command.specs.Run.{Call, ask, apply, refusedNext, refusedApply, none, begins, after, afterAll, Run}
+use Rattle.command.specs.Run.{lend, Call, ask, apply, refusedNext, refusedApply, none, begins, after, afterAll, Run}
 use Rattle.command.specs.Walk.{Line, sent, finished, stopped, obey, walkLines}
-
--- Machine 0 board (off, on), 1 fan (off, on), 2 burner (off, lit, tripped), all live. Then the seven moves, and the end.
-unfoldable pub stove : List ℕ
-stove =
-    2 ∷ 0 ∷ 1 ∷ 0 ∷ 2 ∷ 3
-    ∷ 2 ∷ 0 ∷ 1 ∷ 0 ∷ 2 ∷ 3
-    ∷ 2 ∷ 0 ∷ 1 ∷ 0 ∷ 3 ∷ 7
-    ∷ 4 ∷ 0 ∷ 2 ∷ 0 ∷ 0 ∷ 0 ∷ 1 ∷ 1
-    ∷ 4 ∷ 0 ∷ 2 ∷ 0 ∷ 0 ∷ 1 ∷ 0 ∷ 2
-    ∷ 8 ∷ 0 ∷ 2 ∷ 0 ∷ 1 ∷ 0 ∷ 1 ∷ 1 ∷ 0 ∷ 2 ∷ 2 ∷ 1
-    ∷ 8 ∷ 0 ∷ 2 ∷ 0 ∷ 1 ∷ 1 ∷ 0 ∷ 2 ∷ 0 ∷ 2 ∷ 2 ∷ 1
-    ∷ 8 ∷ 0 ∷ 2 ∷ 0 ∷ 2 ∷ 0 ∷ 1 ∷ 1 ∷ 0 ∷ 2 ∷ 1 ∷ 2
-    ∷ 6 ∷ 0 ∷ 2 ∷ 0 ∷ 2 ∷ 1 ∷ 0 ∷ 2 ∷ 0 ∷ 2
-    ∷ 6 ∷ 0 ∷ 2 ∷ 0 ∷ 2 ∷ 2 ∷ 0 ∷ 3 ∷ 0 ∷ 2
-    ∷ 0 ∷ 0 ∷ 3 ∷ 0 ∷ []
-
--- one machine of one mode, no moves
-unfoldable pub lone : List ℕ
-lone = 2 ∷ 0 ∷ 1 ∷ 0 ∷ 1 ∷ 1 ∷ 0 ∷ 0 ∷ 3 ∷ 0 ∷ []
-
--- machine 0 a filter (fresh, used) that only goes from fresh to used, 1 a pan (off, on) that needs it used to go on
-unfoldable pub filterAndPan : List ℕ
-filterAndPan =
-    2 ∷ 0 ∷ 1 ∷ 0 ∷ 2 ∷ 3
-    ∷ 2 ∷ 0 ∷ 1 ∷ 0 ∷ 2 ∷ 3
-    ∷ 4 ∷ 0 ∷ 2 ∷ 0 ∷ 0 ∷ 0 ∷ 1 ∷ 1
-    ∷ 6 ∷ 0 ∷ 2 ∷ 0 ∷ 1 ∷ 0 ∷ 1 ∷ 1 ∷ 0 ∷ 2
-    ∷ 0 ∷ 0 ∷ 3 ∷ 0 ∷ []
-
--- Further sheets, for what the stove does not show.
-
--- machine 0 a board (off, on, burnt: out of order), 1 a pan (off, on) that needs the board on to go on
-unfoldable pub burnt : List ℕ
-burnt =
-    2 ∷ 0 ∷ 1 ∷ 0 ∷ 3 ∷ 3
-    ∷ 2 ∷ 0 ∷ 1 ∷ 0 ∷ 2 ∷ 3
-    ∷ 4 ∷ 0 ∷ 2 ∷ 0 ∷ 0 ∷ 0 ∷ 1 ∷ 1
-    ∷ 4 ∷ 0 ∷ 2 ∷ 0 ∷ 0 ∷ 1 ∷ 0 ∷ 2
-    ∷ 6 ∷ 0 ∷ 2 ∷ 0 ∷ 1 ∷ 0 ∷ 1 ∷ 1 ∷ 0 ∷ 2
-    ∷ 0 ∷ 0 ∷ 3 ∷ 0 ∷ []
-
--- a dial of four modes, from 0 to 3, from 3 to 1 and from 0 to 2: of 1 and 2, 2 is nearer
-unfoldable pub nearer : List ℕ
-nearer =
-    2 ∷ 0 ∷ 1 ∷ 0 ∷ 4 ∷ 15
-    ∷ 4 ∷ 0 ∷ 2 ∷ 0 ∷ 0 ∷ 0 ∷ 3 ∷ 1
-    ∷ 4 ∷ 0 ∷ 2 ∷ 0 ∷ 0 ∷ 3 ∷ 1 ∷ 2
-    ∷ 4 ∷ 0 ∷ 2 ∷ 0 ∷ 0 ∷ 0 ∷ 2 ∷ 3
-    ∷ 0 ∷ 0 ∷ 3 ∷ 0 ∷ []
-
--- a dial of three modes, from 0 to 2 and from 0 to 1: 1 and 2 are as near
-unfoldable pub tied : List ℕ
-tied =
-    2 ∷ 0 ∷ 1 ∷ 0 ∷ 3 ∷ 7
-    ∷ 4 ∷ 0 ∷ 2 ∷ 0 ∷ 0 ∷ 0 ∷ 2 ∷ 1
-    ∷ 4 ∷ 0 ∷ 2 ∷ 0 ∷ 0 ∷ 0 ∷ 1 ∷ 2
-    ∷ 0 ∷ 0 ∷ 3 ∷ 0 ∷ []
-
--- a filter that only goes from fresh to used, and a lamp that does not need it
-unfoldable pub apart : List ℕ
-apart =
-    2 ∷ 0 ∷ 1 ∷ 0 ∷ 2 ∷ 3
-    ∷ 2 ∷ 0 ∷ 1 ∷ 0 ∷ 2 ∷ 3
-    ∷ 4 ∷ 0 ∷ 2 ∷ 0 ∷ 0 ∷ 0 ∷ 1 ∷ 1
-    ∷ 4 ∷ 0 ∷ 2 ∷ 0 ∷ 1 ∷ 0 ∷ 1 ∷ 1
-    ∷ 0 ∷ 0 ∷ 3 ∷ 0 ∷ []
-
--- a plan for `lone` that is not its own: in shape, with another bound
-unfoldable pub otherPlan : List ℕ
-otherPlan =
-    1 ∷ 0 ∷ 16 ∷ 0 ∷ 0 ∷ 2 ∷ 0 ∷ 17 ∷ 0 ∷ 0 ∷ 254 ∷ 4 ∷ 0 ∷ 18 ∷ 0 ∷ 9 ∷ 9 ∷ 9 ∷ 9 ∷ 0 ∷ 0 ∷ 3 ∷ 0 ∷ []
-
-abbrev pub parsedOf : Reply Parsed → Parsed
-parsedOf (given d) = d
-parsedOf (refused number place) = nothing
-
--- what reading a sheet gives, and the model of it
-unfoldable pub parsedIn : List ℕ → Parsed
-parsedIn sheet = parsedOf (parse sheet)
-
-unfoldable pub modelIn : List ℕ → Model
-modelIn sheet = parsedIn sheet .model
+use Rattle.command.specs.Examples.{stove, lone, filterAndPan, burnt, nearer, tied, apart, lidAndArm, eights, seventy}
+use Rattle.command.specs.Examples.{parsedIn, modelIn, otherPlan, planWith, planOf, blank}
 
 unfoldable pub costsOf : Model → List ℕ
-costsOf m = costsUpto m (groupsOf m) (routesUpto m (groupsOf m) (groupCount (groupsOf m))) (groupCount (groupsOf m))
+costsOf m =
+    let routes = routesUpto m (groupsOf m) (groupCount (groupsOf m)) in
+    costsUpto m (groupsOf m) (movesOf m (groupsOf m)) routes (groupCount (groupsOf m))
 
 -- a call and its whole answer
 pub data Row : Type 0 where
@@ -147,19 +71,29 @@ Holds (runs sheet state goal buffer calls end applied) =
     (parse sheet ≡ given (parsedIn sheet))
     × (planReply sheet buffer 4096 ≡ given (ownPlan (modelIn sheet)))
     × (clear (goalRefusals (modelIn sheet) (ownPlan (modelIn sheet)) state goal) ≡ true)
-    × Run sheet (ownPlan (modelIn sheet)) goal (begins state) calls
-    × (afterAll sheet (ownPlan (modelIn sheet)) goal (begins state) calls
+    × Run (lend sheet (ownPlan (modelIn sheet)) goal) (begins state) calls
+    × (afterAll (lend sheet (ownPlan (modelIn sheet)) goal) (begins state) calls
     ≡ record { state = end; pending = none; applied = applied })
 
 abbrev pub AllHold : List Row → Type 0
 AllHold [] = Unit {0}
 AllHold (r ∷ rs) = Holds r × AllHold rs
 
+-- the stove all off, what case 3 wishes of it, and two machines in their first modes
+abbrev pub off : List ℕ
+off = 0 ∷ 0 ∷ 0 ∷ []
+
+abbrev pub lit : List ℕ
+lit = 1 ∷ 2 ∷ 2 ∷ []
+
+abbrev pub idle : List ℕ
+idle = 0 ∷ 0 ∷ []
+
 -- case 3's commands, asked for twice now and then, with refused calls between
 abbrev pub stoveCalls : List Call
 stoveCalls =
-    ask ∷ apply ∷ refusedNext [] [] [] ∷ ask ∷ ask ∷ refusedApply (0 ∷ []) 1 1 ∷ apply
-    ∷ refusedNext stove [] (1 ∷ []) ∷ ask ∷ apply ∷ ask ∷ apply ∷ ask ∷ ask ∷ []
+    ask ∷ apply ∷ refusedNext (lend [] [] []) ∷ ask ∷ ask ∷ refusedApply (0 ∷ []) 1 1 ∷ apply
+    ∷ refusedNext (lend stove [] (1 ∷ [])) ∷ ask ∷ apply ∷ ask ∷ apply ∷ ask ∷ ask ∷ []
 
 abbrev pub cases : List Row
 cases =
@@ -195,26 +129,100 @@ cases =
     ∷ follows lone otherPlan (0 ∷ []) [] (given done)
     -- a command whose need fails changes nothing
     ∷ applies stove (0 ∷ 0 ∷ 0 ∷ []) 1 1 (given (record { move = 255; state = 0 ∷ 0 ∷ 0 ∷ [] }))
+    -- a command that acts; an absent machine or command 0 changes nothing
+    ∷ applies stove off 0 1 (given (record { move = 0; state = 1 ∷ 0 ∷ 0 ∷ [] }))
+    ∷ applies stove off 3 1 (given (record { move = 255; state = off }))
+    ∷ applies stove off 0 0 (given (record { move = 255; state = off }))
+    -- a short goal: what it does not reach is free
+    ∷ asks stove (1 ∷ 1 ∷ 2 ∷ []) [] (given done)
+    ∷ asks stove off (1 ∷ []) (given done)
+    ∷ walks stove off (1 ∷ []) (finished 0 7 ∷ [])
+    ∷ walks stove (1 ∷ 0 ∷ 0 ∷ []) (1 ∷ []) (sent 0 2 ∷ finished 1 7 ∷ [])
+    -- two needs on one group, of which one holds: both are prepared at once, so the lid is not shut again
+    ∷ asks lidAndArm (1 ∷ 0 ∷ 0 ∷ []) (3 ∷ 7 ∷ 2 ∷ []) (given (command 1 3))
+    ∷ walks lidAndArm (0 ∷ 1 ∷ 0 ∷ []) (3 ∷ 7 ∷ 2 ∷ [])
+    (sent 1 1 ∷ sent 0 1 ∷ sent 1 3 ∷ sent 1 4 ∷ sent 2 1 ∷ finished 5 11 ∷ [])
+    -- the sheet first, then the plan's shape
+    ∷ follows [] [] [] [] (refused 1 0)
+    ∷ applies [] [] 0 0 (refused 1 0)
+    ∷ follows stove [] [] (0 ∷ []) (refused 15 0)
+    -- 13 by length, and at the first bad machine; it comes before 14
+    ∷ asks stove (2 ∷ 9 ∷ []) lit (refused 13 255)
+    ∷ asks stove (0 ∷ 0 ∷ 0 ∷ 0 ∷ []) (0 ∷ []) (refused 13 255)
+    ∷ asks stove (1 ∷ 2 ∷ 3 ∷ []) (0 ∷ []) (refused 13 1)
+    ∷ applies stove (2 ∷ 9 ∷ []) 0 1 (refused 13 255)
+    ∷ applies stove (0 ∷ 0 ∷ 0 ∷ 0 ∷ []) 0 1 (refused 13 255)
+    ∷ applies stove (1 ∷ 2 ∷ 3 ∷ []) 0 2 (refused 13 1)
+    -- 14 by length, and at the first bad byte: empty, or beyond the machine's modes
+    ∷ asks stove off (0 ∷ 2 ∷ 2 ∷ 1 ∷ []) (refused 14 255)
+    ∷ asks stove off (1 ∷ 0 ∷ 8 ∷ []) (refused 14 1)
+    ∷ asks stove off (1 ∷ 2 ∷ 8 ∷ []) (refused 14 2)
+    -- The stove's plan with a byte changed: 29 and 30 are the entry from fan and burner off to on and lit, 13 and 14 that
+    -- of the board from off to on. A distance of 0 or 254 is a route, 255 is none.
+    ∷ follows stove (planWith stove 29 0) off lit (given (command 0 1))
+    ∷ follows stove (planWith stove 29 254) off lit (given (command 0 1))
+    ∷ follows stove (planWith stove 29 255) off lit (refused 17 1)
+    -- Entries that are unfit: no route to what a move needs; a move of another group, from another mode, held up inside its
+    -- group, past the count.
+    ∷ follows stove (planWith stove 13 255) off lit (refused 15 0)
+    ∷ follows stove (planWith stove 30 0) off lit (refused 15 0)
+    ∷ follows stove (planWith stove 30 3) off lit (refused 15 0)
+    ∷ follows stove (planWith stove 30 4) off lit (refused 15 0)
+    ∷ follows stove (planWith stove 14 7) off lit (refused 15 0)
+    -- Plans in shape: the sheet's own; blank tables; two groups numbered the other way; 64 modes in a group.
+    ∷ asks filterAndPan idle [] (given done)
+    ∷ follows filterAndPan (planOf (0 ∷ 1 ∷ []) (blank 8 ∷ blank 8 ∷ [])) idle [] (given done)
+    ∷ follows apart (planOf (1 ∷ 0 ∷ []) (blank 8 ∷ blank 8 ∷ [])) idle [] (given done)
+    ∷ follows eights (planOf (0 ∷ 0 ∷ []) (blank 8192 ∷ [])) idle [] (given done)
+    -- Out of shape, in one thing each. The group numbers: none, of another kind, too long, with a gap, with a need above
+    -- its move's group, with 70 modes in a group.
+    ∷ follows filterAndPan (drop 6 (planOf (0 ∷ 1 ∷ []) (blank 8 ∷ blank 8 ∷ []))) idle [] (refused 15 0)
+    ∷ follows filterAndPan (planWith filterAndPan 2 17) idle [] (refused 15 0)
+    ∷ follows filterAndPan (planWith filterAndPan 0 3) idle [] (refused 15 0)
+    ∷ follows filterAndPan (planOf (0 ∷ 2 ∷ []) (blank 8 ∷ blank 2 ∷ blank 8 ∷ [])) idle [] (refused 15 0)
+    ∷ follows filterAndPan (planOf (1 ∷ 0 ∷ []) (blank 8 ∷ blank 8 ∷ [])) idle [] (refused 15 0)
+    ∷ follows seventy (planOf (0 ∷ 0 ∷ 0 ∷ []) (blank 9800 ∷ [])) off [] (refused 15 0)
+    -- The second table, at byte 18: too short, its length written wrong, of another kind, none.
+    ∷ follows filterAndPan (planOf (0 ∷ 1 ∷ []) (blank 8 ∷ blank 6 ∷ [])) idle [] (refused 15 0)
+    ∷ follows filterAndPan (planWith filterAndPan 18 7) idle [] (refused 15 0)
+    ∷ follows filterAndPan (planWith filterAndPan 20 18) idle [] (refused 15 0)
+    ∷ follows filterAndPan (planOf (0 ∷ 1 ∷ []) (blank 8 ∷ [])) idle [] (refused 15 0)
+    -- The bound, at 30, too short or of another kind; the end, at 38, of another kind or none; a byte behind it.
+    ∷ follows filterAndPan (planWith filterAndPan 30 3) idle [] (refused 15 0)
+    ∷ follows filterAndPan (planWith filterAndPan 32 17) idle [] (refused 15 0)
+    ∷ follows filterAndPan (planWith filterAndPan 40 18) idle [] (refused 15 0)
+    ∷ follows filterAndPan (take 38 (ownPlan (modelIn filterAndPan))) idle [] (refused 15 0)
+    ∷ follows filterAndPan (ownPlan (modelIn filterAndPan) ++ (0 ∷ [])) idle [] (refused 15 0)
     -- arrival is not empty: the stove meets its premises, and its run ends as wished
     ∷ runs stove (0 ∷ 0 ∷ 0 ∷ []) (1 ∷ 2 ∷ 2 ∷ []) 107 stoveCalls (0 ∷ 1 ∷ 1 ∷ []) 4
     ∷ []
 
+infixr 20 _⊗_
+_⊗_ : {A B : Type 0} → A → B → A × B
+a ⊗ b = (a, b)
+
 -- every row holds, by computation
 pub cases-hold : AllHold cases
 unfolding
-    flatMap stove lone filterAndPan burnt nearer tied apart otherPlan parsedIn modelIn costsOf bit beyond
+    flatMap stove lone filterAndPan burnt nearer tied apart lidAndArm eights seventy otherPlan planWith planOf
+    parsedIn modelIn costsOf bit beyond
     successors marked single grown layersFrom layers distancesTo distances between connected upTo all any filter
     position find sum product maximum clear unless andThen word recordAt part moveOf withMachine withMove
     wrongMoveLength badMachine badMove badGuard badGuards sameMove badCommand machineFaults moveFaults endFaults
     faultsOf extended turnAt parseFrom parse names needs needGraph groupCount members smallestMember together
     numbered ready withNumber numberedUpto groupsOf movesOf namesGroup namedOutside size weight modeNumber modeIn
-    liveMode shifted meets leads target alwaysMet usable usableMoves moveGraph routesIn routesUpto starts entryOf
-    tableOf longest costIn costsUpto boundOf twoBytes fourBytes recordOf tableIn bytesOf tableLength tableAt
+    liveMode shifted meets leads landing target alwaysMet usable usableMoves moveGraph routesIn routesUpto starts entryOf
+    tableOf longest costIn costsUpto boundOf planBound counted twoBytes fourBytes recordOf tableIn bytesOf tableLength tableAt
     planLength large largeGroup largePlace largePlan largeBound sizeFaults wrongBuffer ownPlan lengthReply
     planReply groupsIn tableOfGroup entryIn entryAt hasRecord gapless needsFirst fitsRecords wellShaped boundIn
-    absentMode stateFaults badByte goalFaults goalMasks guardMasks met allowed downTo groupGraph upstream
+    modes withMode absentMode stateFaults badByte goalFaults goalMasks guardMasks met allowed downTo groupGraph upstream
     liveGroup attains deadEnd highest faultOf groupFaults attainFaults nearest targetOf holdsInside holdsOutside
     unfit prepareBy followBy fulfil goalRefusals misshapen nextReply acts actingMove stateBy applyReply after
     afterAll obey walkLines
 cases-hold =
-    ((refl, refl, refl, refl), (refl, (refl, (refl, (refl, (refl, ((refl, refl, refl, refl), (refl, (refl, (refl, (refl, (refl, (refl, (refl, (refl, (refl, (refl, (refl, (refl, ((refl, refl, refl, (tt, (tt, (tt, (tt, (tt, (tt, (tt, (tt, (tt, (tt, (tt, (tt, (tt, (tt, tt)))))))))))))), refl), tt))))))))))))))))))))
+    (refl, refl, refl, refl) ⊗ refl ⊗ refl ⊗ refl ⊗ refl ⊗ refl ⊗ (refl, refl, refl, refl) ⊗ refl ⊗ refl ⊗ refl
+    ⊗ refl ⊗ refl ⊗ refl ⊗ refl ⊗ refl ⊗ refl ⊗ refl ⊗ refl ⊗ refl ⊗ refl ⊗ refl ⊗ refl ⊗ refl ⊗ refl ⊗ refl ⊗ refl
+    ⊗ refl ⊗ refl ⊗ refl ⊗ refl ⊗ refl ⊗ refl ⊗ refl ⊗ refl ⊗ refl ⊗ refl ⊗ refl ⊗ refl ⊗ refl ⊗ refl ⊗ refl ⊗ refl
+    ⊗ refl ⊗ refl ⊗ refl ⊗ refl ⊗ refl ⊗ refl ⊗ refl ⊗ refl ⊗ refl ⊗ refl ⊗ refl ⊗ refl ⊗ refl ⊗ refl ⊗ refl ⊗ refl
+    ⊗ refl ⊗ refl ⊗ refl ⊗ refl ⊗ refl ⊗ refl ⊗ refl ⊗ refl ⊗ refl
+    ⊗ (refl, refl, refl, tt ⊗ tt ⊗ tt ⊗ tt ⊗ tt ⊗ tt ⊗ tt ⊗ tt ⊗ tt ⊗ tt ⊗ tt ⊗ tt ⊗ tt ⊗ tt ⊗ tt, refl) ⊗ tt

@@ -14,27 +14,32 @@ use Rattle.plan.specs.Laws.{Connects}
 use Rattle.plan.specs.Reading.{groupsIn, wellShaped}
 use Rattle.command.specs.State.{stateFaults}
 use Rattle.command.specs.Goal.{Masks, met, allowed}
-use Rattle.command.specs.Ancestors.{upstream}
+use Rattle.command.specs.Ancestors.{upstreamIn}
 use Rattle.command.specs.Attainable.{groups, present, liveGroup, attainFaults}
 
-module _ (m : Model) (plan : List ℕ) (masks : Masks) (state : List ℕ) where
+module _ (m : Model) (plan : List ℕ) (masks : Masks) where
   -- from mode p of group k the plan shows a route to an allowed mode
   abbrev pub Attains : ℕ → ℕ → Type 0
   Attains k p =
       (q : ℕ) × (q < size m (groups m plan) k) × (allowed m (groups m plan) masks k q ≡ true) × Connects m plan k p q
 
+  -- whatever the routes of group a reach from mode p has a route to an allowed mode
+  pub record Safe (a p : ℕ) : Type 0 where
+    pub attains-from : (q : ℕ) → q < size m (groups m plan) a → Connects m plan a p q → Attains a q
+
+module _ (m : Model) (plan : List ℕ) (masks : Masks) (state : List ℕ) where
   -- of the groups below n
   pub record Covered (n : ℕ) : Type 0 where
     -- not 16: an unmet group and those upstream of it are live
     pub itself-live : (k : ℕ) → k < n → met (groups m plan) masks state k ≡ false → liveGroup m plan state k ≡ true
     pub upstream-live : (k a : ℕ) → k < n → met (groups m plan) masks state k ≡ false
-        → upstream m (groups m plan) k a ≡ true → liveGroup m plan state a ≡ true
+        → upstreamIn m plan k a ≡ true → liveGroup m plan state a ≡ true
     -- not 17: an unmet group has a route to an allowed mode
-    pub attains : (k : ℕ) → k < n → met (groups m plan) masks state k ≡ false → Attains k (present m plan state k)
-    -- not 18: whatever an upstream group's routes reach has a route to an allowed mode
-    pub no-dead-end : (k a q : ℕ) → k < n → met (groups m plan) masks state k ≡ false
-        → upstream m (groups m plan) k a ≡ true → q < size m (groups m plan) a
-        → Connects m plan a (present m plan state a) q → Attains a q
+    pub attains : (k : ℕ) → k < n → met (groups m plan) masks state k ≡ false
+        → Attains m plan masks k (present m plan state k)
+    -- not 18: the groups upstream of an unmet group are safe
+    pub no-dead-end : (k a : ℕ) → k < n → met (groups m plan) masks state k ≡ false
+        → upstreamIn m plan k a ≡ true → Safe m plan masks a (present m plan state a)
 
 -- Covered is exactly that none of 16, 17 and 18 applies, for any shaped plan of bytes and any state that passes 13.
 abbrev pub CoveredExactly : Type 0

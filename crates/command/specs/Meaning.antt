@@ -1,51 +1,56 @@
--- What the words about states, goals and moves mean: 13 and 14, group modes of a state, and what acting is.
-use Prim.Native.Nat.{ℕ, _≤_, _<_}
+-- What the words about states, goals and moves mean: group modes of a state, what a goal allows, and where a move leads.
+use Prim.Native.Nat.{ℕ, _<_}
 use mathlib.Core.Path.{_≡_}
 use mathlib.Core.Logic.{_↔_}
 use mathlib.Core.List.{List, List·Memᴰ}
-use mathlib.Core.Bool.{true, false}
-use lib.ListN.{length}
-use Rattle.common.specs.Bits.{beyond}
+use mathlib.Core.Bool.{true}
+use lib.ListN.{length, getD}
+use Rattle.common.specs.Bits.{bit}
 use Rattle.common.specs.Reply.{clear}
 use Rattle.sheet.specs.Record.{byte}
-use Rattle.sheet.specs.Model.{Model, machineCount, modeCount, moveCount, moveAt}
+use Rattle.sheet.specs.Model.{Guard, Model, machineCount, modeCount, isLive, moveCount, moveAt}
 use Rattle.sheet.specs.Valid.{Valid}
-use Rattle.plan.specs.Groups.{members, movesOf}
-use Rattle.plan.specs.Modes.{Fits, size, modeIn, liveMode}
+use Rattle.plan.specs.Groups.{groupOf, members, movesOf}
+use Rattle.plan.specs.Modes.{size, modeIn}
 use Rattle.plan.specs.Usable.{leads, target}
+use Rattle.plan.specs.Meaning.{Belongs}
 use Rattle.plan.specs.Reading.{groupsIn, wellShaped}
-use Rattle.command.specs.State.{modeOf, stateFaults, goalFaults}
-use Rattle.command.specs.Goal.{Masks, met, allowed}
+use Rattle.command.specs.State.{modeOf, stateFaults}
+use Rattle.command.specs.Goal.{Masks, goalMasks, guardMasks, met, allowed}
 use Rattle.command.specs.Attainable.{present, liveGroup}
-use Rattle.command.specs.Apply.{acts}
 
--- A state passes 13 exactly if it has a mode for each machine, and that machine has it.
-abbrev pub StatePasses : Type 0
-StatePasses = (m : Model) (state : List ℕ) → (clear (stateFaults m state) ≡ true) ↔ ((length state ≡ machineCount m) × Fits m state)
-
--- A goal passes 14 exactly if it is no longer than the machines, and each byte holds a mode and none beyond.
-abbrev pub GoalPasses : Type 0
-GoalPasses =
-    (m : Model) (goal : List ℕ) → (clear (goalFaults m goal) ≡ true)
-    ↔ ((length goal ≤ machineCount m)
-    × ((i : ℕ) → i < length goal → (byte goal i ≡ 0 → ⊥) × (beyond (modeCount m i) (byte goal i) ≡ false)))
-
--- The group modes of a state that passes 13, under any shaped plan.
+-- The group modes of a state that passes 13, under any plan in shape.
 pub record StateRight (m : Model) (plan state : List ℕ) : Type 0 where
   pub below : (k : ℕ) → present m plan state k < size m (groupsIn m plan) k
-  pub modes : (k i : ℕ) → List·Memᴰ i (members (groupsIn m plan) k)
-      → modeIn m (groupsIn m plan) k (present m plan state k) i ≡ modeOf state i
-  pub live : (k : ℕ) → liveGroup m plan state k ≡ liveMode m (groupsIn m plan) k (present m plan state k)
-  pub met-allowed : (masks : Masks) (k : ℕ)
-      → met (groupsIn m plan) masks state k ≡ allowed m (groupsIn m plan) masks k (present m plan state k)
-  -- at most one move acts on a command
-  pub one-acts : (i c v w : ℕ) → v < moveCount m → w < moveCount m → acts m state i c v ≡ true → acts m state i c w ≡ true
-      → v ≡ w
+  pub modes : (k i : ℕ) → Belongs m (groupsIn m plan) i k → modeIn m (groupsIn m plan) k (present m plan state k) i ≡ modeOf state i
+  -- a group is live if each of its machines is in a live mode
+  pub live : (k : ℕ) → (liveGroup m plan state k ≡ true)
+      ↔ ((i : ℕ) → Belongs m (groupsIn m plan) i k → isLive m i (modeOf state i) ≡ true)
+  -- and met if each is in a mode that is allowed to it
+  pub met-by : (masks : Masks) (k : ℕ) → (met (groupsIn m plan) masks state k ≡ true)
+      ↔ ((i : ℕ) → Belongs m (groupsIn m plan) i k → bit (getD masks i 255) (modeOf state i) ≡ true)
 
 abbrev pub StatesRight : Type 0
 StatesRight =
     (m : Model) (plan state : List ℕ) → Valid m → wellShaped m plan ≡ true → clear (stateFaults m state) ≡ true
     → StateRight m plan state
+
+-- What a goal allows, under any plan in shape.
+pub record GoalRight (m : Model) (plan : List ℕ) : Type 0 where
+  -- a group mode is allowed if the mode of each machine in it is
+  pub allowed-by : (masks : Masks) (k q : ℕ) → (allowed m (groupsIn m plan) masks k q ≡ true)
+      ↔ ((i : ℕ) → Belongs m (groupsIn m plan) i k → bit (getD masks i 255) (modeIn m (groupsIn m plan) k q i) ≡ true)
+  -- the caller's goal: its byte for the machine, and any mode past its end
+  pub wished : (goal : List ℕ) (i mode : ℕ) → i < machineCount m → mode < modeCount m i
+      → (bit (getD (goalMasks m goal) i 255) mode ≡ true) ↔ (i < length goal → bit (byte goal i) mode ≡ true)
+  -- the needs of move v outside group k
+  pub needed : (k v i mode : ℕ) → v < moveCount m → i < machineCount m → mode < modeCount m i
+      → (bit (getD (guardMasks m (groupsIn m plan) k (moveAt m v)) i 255) mode ≡ true)
+      ↔ ((g : Guard) → List·Memᴰ g (moveAt m v .guards) → g .machine ≡ i → (groupOf (groupsIn m plan) i ≡ k → ⊥)
+      → bit (g .mask) mode ≡ true)
+
+abbrev pub GoalsRight : Type 0
+GoalsRight = (m : Model) (plan : List ℕ) → Valid m → wellShaped m plan ≡ true → GoalRight m plan
 
 -- Where a move leads: its machine is in the to mode, every other machine of the group as before.
 pub record LeadsRight (m : Model) (plan : List ℕ) (k v p : ℕ) : Type 0 where

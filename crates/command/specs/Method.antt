@@ -1,18 +1,21 @@
--- The method, stated as a relation with no search: which reply is picked for a goal (demand 2, on commands).
+-- The method, stated as a relation with no search: which reply is picked for a goal, under any plan in shape (demand 2, on
+-- commands and on entries that cannot be followed).
 use Prim.Native.Nat.{ℕ, _≤_, _<_}
 use mathlib.Core.Path.{_≡_}
-use mathlib.Core.List.{List}
+use mathlib.Core.List.{List, List·Memᴰ}
 use mathlib.Core.Bool.{true, false}
-use Rattle.common.specs.Reply.{given, clear}
-use Rattle.sheet.specs.Model.{Move, Model, moveAt}
+use Rattle.common.specs.Bits.{bit}
+use Rattle.common.specs.Reply.{Reply, given, refused, clear}
+use Rattle.sheet.specs.Model.{Guard, Move, Model, moveCount, moveAt}
 use Rattle.sheet.specs.Parse.{Parsed, parse}
-use Rattle.plan.specs.Groups.{groupCount}
+use Rattle.plan.specs.Groups.{groupOf, groupCount}
 use Rattle.plan.specs.Modes.{size}
-use Rattle.plan.specs.Planning.{planReply}
-use Rattle.plan.specs.Reading.{groupsIn, entryAt}
+use Rattle.plan.specs.Table.{Entry}
+use Rattle.plan.specs.Reading.{groupsIn, entryAt, wellShaped}
+use Rattle.command.specs.State.{modeOf}
 use Rattle.command.specs.Goal.{Masks, goalMasks, guardMasks, met, allowed}
 use Rattle.command.specs.Attainable.{groups, present}
-use Rattle.command.specs.Next.{Next, done, command, distanceTo, holdsOutside, goalRefusals, nextReply}
+use Rattle.command.specs.Next.{Next, done, command, distanceTo, goalRefusals, nextReply}
 
 module _ (m : Model) (plan state : List ℕ) where
   -- group k is the highest-numbered unmet one below n
@@ -30,27 +33,56 @@ module _ (m : Model) (plan state : List ℕ) where
     pub smallest : (t : ℕ) → t < q → allowed m (groups m plan) masks k t ≡ true
         → distanceTo m plan state k q < distanceTo m plan state k t
 
-  -- the plan's move from the present mode of group k to mode q
-  abbrev pub moveToward : ℕ → ℕ → Move
-  moveToward k q = moveAt m (entryAt m plan k (present m plan state k) q .move)
+  -- the plan's entry from the present mode of group k to mode q, and its move
+  abbrev pub entryToward : ℕ → ℕ → Entry
+  entryToward k q = entryAt m plan k (present m plan state k) q
 
-  -- for a goal on the groups below n the method picks r
-  pub data Picks : Masks → ℕ → Next → Type 0 where
+  abbrev pub moveToward : ℕ → ℕ → Move
+  moveToward k q = moveAt m (entryToward k q .move)
+
+  -- a need holds in the state
+  abbrev pub Holds : Guard → Type 0
+  Holds g = bit (g .mask) (modeOf state (g .machine)) ≡ true
+
+  -- an entry of group k is fit to be followed: a route, by a move of k from the present mode whose needs inside k hold
+  pub record Fit (k : ℕ) (e : Entry) : Type 0 where
+    pub route : e .distance ≡ 255 → ⊥
+    pub listed : e .move < moveCount m
+    pub own : groupOf (groups m plan) (moveAt m (e .move) .machine) ≡ k
+    pub from-now : modeOf state (moveAt m (e .move) .machine) ≡ moveAt m (e .move) .from
+    pub inside : (g : Guard) → List·Memᴰ g (moveAt m (e .move) .guards) → groupOf (groups m plan) (g .machine) ≡ k → Holds g
+
+  -- a move's needs outside group k all hold; or one of them does not
+  abbrev pub Ready : ℕ → Move → Type 0
+  Ready k v = (g : Guard) → List·Memᴰ g (v .guards) → (groupOf (groups m plan) (g .machine) ≡ k → ⊥) → Holds g
+
+  pub record Waits (k : ℕ) (v : Move) : Type 0 where
+    pub need : Guard
+    pub among : List·Memᴰ need (v .guards)
+    pub outside : groupOf (groups m plan) (need .machine) ≡ k → ⊥
+    pub fails : Holds need → ⊥
+
+  -- for a goal on the groups below n the method picks a reply
+  pub data Picks : Masks → ℕ → Reply Next → Type 0 where
     nothing-unmet : {masks : Masks} {n : ℕ} → ((k : ℕ) → k < n → met (groups m plan) masks state k ≡ true)
-        → Picks masks n done
+        → Picks masks n (given done)
+    unfit : {masks : Masks} {n : ℕ} (k q : ℕ) → HighestUnmet masks n k → Target masks k q
+        → (Fit k (entryToward k q) → ⊥) → Picks masks n (refused 15 0)
     sends : {masks : Masks} {n : ℕ} (k q : ℕ) → HighestUnmet masks n k → Target masks k q
-        → holdsOutside m plan state k (moveToward k q) ≡ true
-        → Picks masks n (command (moveToward k q .machine) (moveToward k q .command))
-    prepares : {masks : Masks} {n : ℕ} {r : Next} (k q : ℕ) → HighestUnmet masks n k → Target masks k q
-        → holdsOutside m plan state k (moveToward k q) ≡ false
+        → Fit k (entryToward k q) → Ready k (moveToward k q)
+        → Picks masks n (given (command (moveToward k q .machine) (moveToward k q .command)))
+    prepares : {masks : Masks} {n : ℕ} {r : Reply Next} (k q : ℕ) → HighestUnmet masks n k → Target masks k q
+        → Fit k (entryToward k q) → Waits k (moveToward k q)
         → Picks (guardMasks m (groups m plan) k (moveToward k q)) k r → Picks masks n r
 
--- For a sheet that planning accepts, its own plan, and a state and goal that pass 13 and 14, the goal covered: the reply is
--- what the method picks.
+-- For a sheet that passes, a plan in shape, and a state and goal that pass 13 and 14, the goal covered: the reply is what the
+-- method picks, and it picks one reply alone.
+pub record MethodRight (m : Model) (sheet plan state goal : List ℕ) : Type 0 where
+  pub picked : Picks m plan state (goalMasks m goal) (groupCount (groupsIn m plan)) (nextReply sheet plan state goal)
+  pub alone : (r : Reply Next) → Picks m plan state (goalMasks m goal) (groupCount (groupsIn m plan)) r
+      → r ≡ nextReply sheet plan state goal
+
 abbrev pub MethodFollowed : Type 0
 MethodFollowed =
-    (sheet plan state goal : List ℕ) (buffer scratch : ℕ) (d : Parsed) → parse sheet ≡ given d
-    → planReply sheet buffer scratch ≡ given plan
-    → clear (goalRefusals (d .model) plan state goal) ≡ true
-    → (r : Next) × (nextReply sheet plan state goal ≡ given r)
-    × Picks (d .model) plan state (goalMasks (d .model) goal) (groupCount (groupsIn (d .model) plan)) r
+    (sheet plan state goal : List ℕ) (d : Parsed) → parse sheet ≡ given d → wellShaped (d .model) plan ≡ true
+    → clear (goalRefusals (d .model) plan state goal) ≡ true → MethodRight (d .model) sheet plan state goal

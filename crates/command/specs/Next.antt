@@ -5,7 +5,7 @@ use mathlib.Core.Bool.{Bool, cond, not, _&&_, _||_}
 use lib.Dec.{eqb, leb}
 use Rattle.common.specs.Lists.{upTo, all, find}
 use Rattle.common.specs.Bits.{bit}
-use Rattle.common.specs.Reply.{Reply, given, refused, Fault, fault, unless, andThen}
+use Rattle.common.specs.Reply.{Reply, given, Fault, fault, unless, andThen}
 use Rattle.sheet.specs.Model.{Move, Model, moveCount, moveAt}
 use Rattle.sheet.specs.Parse.{parse}
 use Rattle.plan.specs.Groups.{groupOf, groupCount}

@@ -5,13 +5,26 @@ use Rattle.common.specs.Reply.{Reply, given, refused}
 use Rattle.command.specs.Next.{Next, done, command, nextReply}
 use Rattle.command.specs.Apply.{applyReply, stateAfter}
 
+-- what is lent when asking, beside the state
+pub record Lent : Type 0 where
+  pub sheet : List ℕ
+  pub plan : List ℕ
+  pub goal : List ℕ
+
+abbrev pub lend : List ℕ → List ℕ → List ℕ → Lent
+lend sheet plan goal = record { sheet = sheet; plan = plan; goal = goal }
+
+-- what asking replies
+abbrev pub askReply : Lent → List ℕ → Reply Next
+askReply lent state = nextReply (lent .sheet) (lent .plan) state (lent .goal)
+
 pub data Call : Type 0 where
-  -- "asking": next command, with the run's own bytes
+  -- "asking": next command, with what the run lends
   ask : Call
   -- "applying": what was last asked for, once
   apply : Call
   -- "refused": a call with the same state and other bytes, which is refused
-  refusedNext : (sheet plan goal : List ℕ) → Call
+  refusedNext : Lent → Call
   refusedApply : (sheet : List ℕ) (machine command : ℕ) → Call
 
 -- a command that was replied and not applied yet, or none
@@ -41,20 +54,24 @@ abbrev pub IsPending : Pending → Type 0
 IsPending none = ⊥
 IsPending (some i c) = Unit {0}
 
-module _ (sheet plan goal : List ℕ) where
+module _ (lent : Lent) where
   -- what is left after applying the pending command
   abbrev pub appliedBy : Situation → Pending → Situation
   appliedBy s none = s
   appliedBy s (some i c) =
-      record { state = stateAfter (applyReply sheet (s .state) i c) (s .state); pending = none; applied = suc (s .applied) }
+      record {
+        state = stateAfter (applyReply (lent .sheet) (s .state) i c) (s .state);
+        pending = none;
+        applied = suc (s .applied);
+      }
 
   -- what a call leaves
   unfoldable pub after : Situation → Call → Situation
-  after s ask = record { state = s .state; pending = pendingOf (nextReply sheet plan (s .state) goal); applied = s .applied }
+  after s ask = record { state = s .state; pending = pendingOf (askReply lent (s .state)); applied = s .applied }
   after s apply = appliedBy s (s .pending)
-  after s (refusedNext sheet′ plan′ goal′) = s
-  after s (refusedApply sheet′ i c) =
-      record { state = stateAfter (applyReply sheet′ (s .state) i c) (s .state); pending = s .pending; applied = s .applied }
+  after s (refusedNext other) = s
+  after s (refusedApply sheet i c) =
+      record { state = stateAfter (applyReply sheet (s .state) i c) (s .state); pending = s .pending; applied = s .applied }
 
   unfoldable pub afterAll : Situation → List Call → Situation
   afterAll s [] = s
@@ -64,8 +81,8 @@ module _ (sheet plan goal : List ℕ) where
   abbrev pub Legal : Situation → Call → Type 0
   Legal s ask = Unit {0}
   Legal s apply = IsPending (s .pending)
-  Legal s (refusedNext sheet′ plan′ goal′) = IsRefused (nextReply sheet′ plan′ (s .state) goal′)
-  Legal s (refusedApply sheet′ i c) = IsRefused (applyReply sheet′ (s .state) i c)
+  Legal s (refusedNext other) = IsRefused (askReply other (s .state))
+  Legal s (refusedApply sheet i c) = IsRefused (applyReply sheet (s .state) i c)
 
   -- the calls are a run from here
   abbrev pub Run : Situation → List Call → Type 0

@@ -3,7 +3,7 @@
 use Prim.Native.Nat.{ℕ}
 use mathlib.Core.List.{List, [], _∷_}
 use mathlib.Core.Bool.{Bool, not, _||_}
-use lib.ListN.{length}
+use lib.ListN.{length, getD, set}
 use lib.Dec.{eqb, ltb, leb}
 use Rattle.common.specs.Lists.{upTo, any, find}
 use Rattle.common.specs.Bits.{beyond}
@@ -11,9 +11,17 @@ use Rattle.common.specs.Reply.{Fault, fault}
 use Rattle.sheet.specs.Record.{byte}
 use Rattle.sheet.specs.Model.{Model, machineCount, modeCount}
 
--- the mode of a machine in a state: the only reader of a state's bytes
+-- the modes of a state, one for each machine: the only reader of a state's bytes
+unfoldable pub modes : List ℕ → List ℕ
+modes state = state
+
+-- the mode of a machine in a state
 abbrev pub modeOf : List ℕ → ℕ → ℕ
-modeOf state i = byte state i
+modeOf state i = getD (modes state) i 0
+
+-- the state with machine i in another mode: the only writer
+unfoldable pub withMode : List ℕ → ℕ → ℕ → List ℕ
+withMode state i mode = set state i mode
 
 module _ (m : Model) where
   -- 13: the length is wrong (place 255), or a mode is absent (place the first such machine)

@@ -1,35 +1,65 @@
 // What the definitions of commands and runs promise, as theorems. A function here does nothing: its contract is the theorem.
+ghost use Prim.Native.Nat.{ℕ};
+ghost use mathlib.Core.List.{List};
 ghost use Rattle.command.specs.Ancestors.{UpstreamRight};
+ghost use Rattle.command.specs.Applying.{AppliesRight, StateLeft};
 ghost use Rattle.command.specs.Arrival.{Arrival, ArrivalOfLaws};
 ghost use Rattle.command.specs.Cases.{AllHold, cases};
 ghost use Rattle.command.specs.Covered.{CoveredExactly};
-ghost use Rattle.command.specs.Meaning.{GoalPasses, MovesRight, StatePasses, StatesRight};
+ghost use Rattle.command.specs.Meaning.{GoalsRight, MovesRight, StatesRight};
 ghost use Rattle.command.specs.Method.{MethodFollowed};
+ghost use Rattle.command.specs.TurnedDown.{GoalPasses, SheetBefore, StatePasses, TurnedDown};
 ghost use Rattle.command.specs.Uncovered.{UncoveredRefused};
+ghost use Rattle.command.specs.Walked.{WalksRight};
 
-// Cases 1 to 8 of document 01 hold of the definitions.
+// Cases 1 to 8 of document 01 hold of the definitions, and so do the rows for what they leave out.
 pub fn cases_hold()
     ensures { λ _. ⌜ AllHold cases ⌝ }
 {}
 
-// A state passes 13 exactly if each machine is in a mode that it has.
+// A sheet that is refused is refused alike by next command and by applying, before all else.
+pub fn sheet_comes_first()
+    ensures { λ _. ⌜ SheetBefore ⌝ }
+{}
+
+// A state passes 13 exactly if it has a mode for each machine, and the machine has it.
 pub fn states_pass()
     ensures { λ _. ⌜ StatePasses ⌝ }
 {}
 
-// A goal passes 14 exactly if each of its bytes holds a mode and none beyond.
+// A goal passes 14 exactly if each of its bytes holds a mode of its machine and none beyond.
 pub fn goals_pass()
     ensures { λ _. ⌜ GoalPasses ⌝ }
 {}
 
-// The group modes of a state are its machines' modes; live and met are judged alike of both; one move acts at most.
+// A plan out of shape, a faulty state and a faulty goal are refused by 15, 13 and 14, in this order, each at its place.
+pub fn faulty_bytes_are_turned_down()
+    ensures { λ _. ⌜ TurnedDown ⌝ }
+{}
+
+// The group modes of a state are its machines' modes; a group is live, or met, if each of its machines is.
 pub fn states_are_right()
     ensures { λ _. ⌜ StatesRight ⌝ }
+{}
+
+// A goal allows a machine what its byte or the move's need says, and any mode where there is none.
+pub fn goals_are_right()
+    ensures { λ _. ⌜ GoalsRight ⌝ }
 {}
 
 // A move leads to the group mode in which its machine alone has changed.
 pub fn moves_are_right()
     ensures { λ _. ⌜ MovesRight ⌝ }
+{}
+
+// A command acts by the move that answers it: that one machine takes the to mode, and else nothing changes.
+pub fn applying_is_right()
+    ensures { λ _. ⌜ AppliesRight ⌝ }
+{}
+
+// Applying leaves the state that it replied, or all as it was.
+pub fn states_are_left_right()
+    ensures { λ _. ⌜ ((sheet state : List ℕ) (machine command : ℕ) → StateLeft sheet state machine command) ⌝ }
 {}
 
 // Upstream is need, directly or through others.
@@ -42,12 +72,12 @@ pub fn covered_is_exact()
     ensures { λ _. ⌜ CoveredExactly ⌝ }
 {}
 
-// A goal that is not covered is refused by the table's number and place.
+// A goal that is not covered is refused by the highest-numbered unmet group that has a cause, by its first of 16 to 18.
 pub fn uncovered_is_refused()
     ensures { λ _. ⌜ UncoveredRefused ⌝ }
 {}
 
-// Demand 2, on commands: for a covered goal the reply is what the method picks.
+// Demand 2, on commands: under any plan in shape, the reply for a covered goal is what the method picks, and that alone.
 pub fn method_is_followed()
     ensures { λ _. ⌜ MethodFollowed ⌝ }
 {}
@@ -60,4 +90,9 @@ pub fn lawful_plans_arrive()
 // Demand 3: from any sheet that planning accepts, its own plan, any state and any covered goal, every run keeps its promise.
 pub fn every_run_arrives()
     ensures { λ _. ⌜ Arrival ⌝ }
+{}
+
+// The walk prints the lines of obeying its own commands, to the end.
+pub fn walks_are_right()
+    ensures { λ _. ⌜ WalksRight ⌝ }
 {}

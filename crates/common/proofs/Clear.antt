@@ -1,14 +1,14 @@
 -- `clear`, the test that no cause applies: what it says of each cause, of two lists and of a list made group by group.
 -- Assumes nothing.
 use mathlib.Core.Path.{_≡_, refl, sym, ap, _∙_}
-use mathlib.Core.List.{List, [], _∷_, _++_, flatMap, List·Memᴰ, List·Memᴰ·head, Memᴰ·append-right}
+use mathlib.Core.List.{List, [], _∷_, _++_, flatMap}
 use mathlib.Core.Bool.{Bool, true, false, not, _&&_}
 use borrow.Author.Tests.{not-true}
 use Rattle.common.specs.Lists.{all}
-use Rattle.common.specs.Reply.{Reply, refused, Fault, clear, unless}
+use Rattle.common.specs.Reply.{Reply, Fault, clear, unless}
 use Rattle.common.proofs.Bools.{by-cases, true-false, and-intro, and-left, and-right, not-of-false}
 use Rattle.common.proofs.Lists.{all-append}
-use Rattle.common.proofs.Reply.{Clear, unless-first, unless-later, first-refuses}
+use Rattle.common.proofs.Reply.{Clear, unless-first, unless-later}
 
 pub all-flatMap : {A B : Type 0} (p : B → Bool) (f : A → List B) (xs : List A)
     → all p (flatMap f xs) ≡ all (λ x. all p (f x)) xs
@@ -52,39 +52,3 @@ module _ {A : Type 0} where
       (λ n.
       unless-later f (fs ++ gs) r n
       ∙ (unless-append-decides fs gs r (rw n at h) ∙ sym (unless-later f fs r n)))
-
--- where some cause applies, there is a first
-pub record FirstOf (fs : List Fault) : Type 0 where
-  pub before : List Fault
-  pub cause : Fault
-  pub after : List Fault
-  pub split : fs ≡ before ++ cause ∷ after
-  pub clear-before : Clear before
-  pub applies : cause .applies ≡ true
-
-pub first-of : (fs : List Fault) → clear fs ≡ false → FirstOf fs
-unfolding clear all
-first-of [] h = absurd (true-false refl h)
-first-of (f ∷ fs) h =
-    by-cases (f .applies)
-    (λ t. record { before = []; cause = f; after = fs; split = refl; clear-before = tt; applies = t })
-    (λ n. later n (first-of fs (rw n at h)))
-  where
-    later : f .applies ≡ false → FirstOf fs → FirstOf (f ∷ fs)
-    later n r =
-        record {
-          before = f ∷ r .before;
-          cause = r .cause;
-          after = r .after;
-          split = ap (_∷_ f) (r .split);
-          clear-before = (n, r .clear-before);
-          applies = r .applies;
-        }
-
-pub first-of-listed : {fs : List Fault} (r : FirstOf fs) → List·Memᴰ (r .cause) fs
-first-of-listed r = rw (r .split) (Memᴰ·append-right (r .before) (List·Memᴰ·head refl))
-
--- and it refuses
-pub first-of-refuses : {A : Type 0} {fs : List Fault} (f : FirstOf fs) (r : Reply A)
-    → unless fs r ≡ refused (f .cause .number) (f .cause .place)
-first-of-refuses f r = rw (f .split) (first-refuses (f .before) (f .cause) (f .after) r (f .clear-before) (f .applies))

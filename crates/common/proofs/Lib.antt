@@ -2,6 +2,7 @@ pub mod Bits
 pub mod Bools
 pub mod Clear
 pub mod Graph
+pub mod Guarantees
 pub mod Least
 pub mod Lists
 pub mod Members

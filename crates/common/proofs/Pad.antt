@@ -1,6 +1,6 @@
 -- Laws of a list in an array, zeros behind it.
 -- Assumes nothing.
-use Prim.Native.Nat.{ℕ, zero, suc, _-_, _≤_, _<_}
+use Prim.Native.Nat.{ℕ, zero, suc, _-_, _≤_, _<_, max}
 use mathlib.Core.Path.{_≡_, refl, sym, ap, _∙_}
 use mathlib.Core.List.{List, [], _∷_, _++_}
 use native.Mathlib.Nat.{sub-zero}
@@ -25,9 +25,12 @@ pub getD-pad : (n : ℕ) (xs : List ℕ) (i : ℕ) → getD (pad n xs) i 0 ≡ g
 unfolding pad
 getD-pad n xs i = getD-zeros-behind xs (n - length xs) i
 
-pub length-pad : (n : ℕ) (xs : List ℕ) → length xs ≤ n → length (pad n xs) ≡ n
+pub length-pad-max : (n : ℕ) (xs : List ℕ) → length (pad n xs) ≡ max n (length xs)
 unfolding pad
-length-pad n xs h = simp (length-append, length-replicate) (omega arith)
+length-pad-max n xs = simp (length-append, length-replicate) (omega arith)
+
+pub length-pad : (n : ℕ) (xs : List ℕ) → length xs ≤ n → length (pad n xs) ≡ n
+length-pad n xs h = omega (arith, length-pad-max n xs)
 
 pub set-pad : (n : ℕ) (xs : List ℕ) (x : ℕ) → length xs < n → set (pad n xs) (length xs) x ≡ pad n (xs ++ (x ∷ []))
 unfolding pad

@@ -9,8 +9,8 @@ use native.Mathlib.Omega.{arith}
 use lib.ListN.{length, getD, List·getD-eq-default}
 use Rattle.common.specs.Lists.{upTo, any, filter, position, find}
 use Rattle.common.proofs.Bools.{by-cases, true-false, false-of-not-true, or-false-left, or-false-right}
-use Rattle.common.proofs.Lists.{any-some}
-use Rattle.common.proofs.Members.{mem-getD, mem-index, upTo-below, length-upTo, getD-upTo}
+use Rattle.common.proofs.Lists.{any-some, any-intro}
+use Rattle.common.proofs.Members.{mem-getD, mem-index, upTo-mem, upTo-below, length-upTo, getD-upTo}
 
 -- The place of the first that, and the first that
 
@@ -111,6 +111,14 @@ module _ (p : ℕ → Bool) (n d : ℕ) (some : any p (upTo n) ≡ true) where
       let e : find p (upTo n) d ≡ position p (upTo n) = find-first p (upTo n) d ∙ getD-upTo d l in
       let b : j < n = omega arith in
       ap p (sym (getD-upTo d b)) ∙ position-before p (upTo n) j d (omega arith)
+
+-- a number below n that, and none before it
+pub find-upTo-is : (p : ℕ → Bool) {n : ℕ} (d i : ℕ) → i < n → p i ≡ true → ((j : ℕ) → j < i → p j ≡ false)
+    → find p (upTo n) d ≡ i
+find-upTo-is p {n} d i h t before =
+    let some = any-intro p (upTo-mem h) t in
+    let k : ¬ (find p (upTo n) d < i) = λ l. true-false (find-holds p (upTo n) d some) (before _ l) in
+    omega (arith, find-upTo-least p d i h t)
 
 -- the first of those that
 pub find-filter : {A : Type 0} (p q : A → Bool) (xs : List A) (d : A)

@@ -1,7 +1,7 @@
 -- Laws of sums, products and the greatest.
 -- Assumes nothing.
 use Prim.Native.Nat.{ℕ, suc, _+_, _*_, _≤_, _<_, zero-le}
-use mathlib.Core.Path.{_≡_, refl, sym, ap, _∙_}
+use mathlib.Core.Path.{_≡_, refl, sym, ap, ap₂, _∙_}
 use mathlib.Core.List.{List, [], _∷_, _++_, map, List·Memᴰ, List·Memᴰ·head as head, List·Memᴰ·tail as tail, Memᴰ·cast}
 use mathlib.Core.List.{append-nil, flatMap, append-assoc}
 use mathlib.Core.Bool.{Bool}
@@ -12,6 +12,7 @@ use lib.Dec.{leb}
 use lib.ListN.{length, length-append}
 use Rattle.common.specs.Lists.{upTo, filter, sum, product, maximum}
 use Rattle.common.proofs.Bools.{by-cases}
+use Rattle.common.proofs.Members.{upTo-below}
 
 -- Sums, products, the greatest
 
@@ -94,3 +95,15 @@ module _ {A B : Type 0} (f : A → List B) where
 pub flatMap-upTo-suc : {B : Type 0} (f : ℕ → List B) (n : ℕ) → flatMap f (upTo (suc n)) ≡ flatMap f (upTo n) ++ f n
 unfolding upTo flatMap
 flatMap-upTo-suc f n = flatMap-append f (upTo n) (n ∷ []) ∙ ap (λ l. flatMap f (upTo n) ++ l) (append-nil (f n))
+
+pub flatMap-cong : {A B : Type 0} (f g : A → List B) (xs : List A) → ((x : A) → List·Memᴰ x xs → f x ≡ g x)
+    → flatMap f xs ≡ flatMap g xs
+unfolding flatMap
+flatMap-cong f g [] h = refl
+flatMap-cong f g (x ∷ xs) h = ap₂ _++_ (h x (head refl)) (flatMap-cong f g xs (λ y m. h y (tail m)))
+
+-- the same pieces as before, and one more
+pub flatMap-upTo-more : {B : Type 0} (f g : ℕ → List B) (n : ℕ) → ((i : ℕ) → i < n → g i ≡ f i)
+    → flatMap g (upTo (suc n)) ≡ flatMap f (upTo n) ++ g n
+flatMap-upTo-more f g n h =
+    flatMap-upTo-suc g n ∙ ap (λ l. l ++ g n) (flatMap-cong g f (upTo n) (λ i m. h i (upTo-below n m)))

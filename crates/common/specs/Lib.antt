@@ -1,4 +1,5 @@
 pub mod Bits
 pub mod Graph
 pub mod Lists
+pub mod Meaning
 pub mod Reply

@@ -2,8 +2,9 @@
 -- Assumes nothing.
 use Prim.Native.Nat.{ℕ, _≤_, _<_}
 use mathlib.Core.Path.{_≡_, refl, sym, subst, _∙_}
-use mathlib.Core.List.{[], map, Memᴰ·of-map}
-use mathlib.Core.Bool.{true, cond}
+use mathlib.Core.Logic.{_↔_}
+use mathlib.Core.List.{[], map, List·Memᴰ, Memᴰ·of-map}
+use mathlib.Core.Bool.{cond}
 use native.Mathlib.Omega.{arith}
 use lib.ListN.{length, getD}
 use Rattle.common.specs.Lists.{upTo, maximum}
@@ -11,16 +12,18 @@ use Rattle.common.specs.Graph.{Matrix, between, connected}
 use Rattle.common.proofs.Bools.{by-cases, cond-true, cond-false}
 use Rattle.common.proofs.Members.{upTo-below, length-map-upTo}
 use Rattle.common.proofs.Sums.{maximum-some}
-use Rattle.sheet.specs.Model.{Model, machineCount}
+use Rattle.sheet.specs.Model.{Model}
 use Rattle.sheet.specs.Valid.{Valid}
-use Rattle.plan.specs.Groups.{Grouping, groupCount, groupsOf}
+use Rattle.plan.specs.Groups.{Grouping, groupCount, groupsOf, movesOf, namedOutside}
 use Rattle.plan.specs.Modes.{size}
-use Rattle.plan.specs.Reading.{needsFirst}
-use Rattle.plan.specs.Bound.{longest, boundOf}
-use Rattle.plan.specs.Meaning.{ShortestRoute, BoundRight, BoundsRight, SmallGroups, ownBound}
+use Rattle.plan.specs.Bound.{longest, planBound}
+use Rattle.plan.specs.Meaning.{MoveOf, NamesOutside, ShortestRoute, BoundRight}
+use Rattle.plan.specs.Promised.{BoundsRight, SmallGroups, ownBound}
 use Rattle.plan.proofs.Modes.{size-positive}
-use Rattle.plan.proofs.Groups.{groups-right, needs-first-test}
+use Rattle.plan.proofs.ModeDigits.{Rising, filter-rises}
+use Rattle.plan.proofs.Words.{moves-mean, named-mean}
 use Rattle.plan.proofs.Routes.{allRoutes}
+use Rattle.plan.proofs.Usable.{Ordered, own-ordered}
 use Rattle.plan.proofs.Distances.{routes-length, route-of-between, between-at-most, between-below, between-longest}
 use Rattle.plan.proofs.Distances.{between-self, connected-size}
 use Rattle.plan.proofs.Costs.{costOf, cost-rule, bound-sum}
@@ -55,8 +58,7 @@ module _ (d : Matrix) where
         far = y .2 ∙ x .2;
       }
 
-module _ (m : Model) (valid : Valid m) (groups : Grouping) (all-machines : length groups ≡ machineCount m)
-    (first : needsFirst m groups ≡ true) where
+module _ {m : Model} {groups : Grouping} (o : Ordered m groups) where
   module _ {k : ℕ} (h : k < groupCount groups) where
     abbrev matrix : Matrix
     matrix = getD (allRoutes m groups) k []
@@ -64,20 +66,20 @@ module _ (m : Model) (valid : Valid m) (groups : Grouping) (all-machines : lengt
     pub shortest-between : (p q : ℕ) → q < size m groups k → between matrix p q < size m groups k
         → ShortestRoute m groups k (between matrix p q) p q
     shortest-between p q hq l =
-        (route-of-between m groups first h p q l, λ c r. between-at-most m groups first h p q hq r)
+        (route-of-between o h p q l, λ c r. between-at-most o h p q hq r)
 
     pub none-longer : (d p q : ℕ) → p < size m groups k → q < size m groups k → ShortestRoute m groups k d p q
         → d ≤ longest matrix
     none-longer d p q hp hq s =
-        let l = between-below m groups first h p q hq (s .0) in
-        omega (arith, s .1 _ (route-of-between m groups first h p q l), between-longest m groups first h p q hp hq l)
+        let l = between-below o h p q hq (s .0) in
+        omega (arith, s .1 _ (route-of-between o h p q l), between-longest o h p q hp hq l)
 
     pub one-as-long : (p : ℕ) × (q : ℕ) × (p < size m groups k) × (q < size m groups k)
         × ShortestRoute m groups k (longest matrix) p q
     one-as-long =
-        let n = routes-length m groups first h in
-        let o = size-positive m valid groups all-machines k in
-        let f = farthest matrix (rw n o) in
+        let n = routes-length o h in
+        let some = size-positive m (o .valid) groups (o .all-machines) k in
+        let f = farthest matrix (rw n some) in
         by-cases (connected matrix (f .from) (f .to))
         (λ t.
         let e : between matrix (f .from) (f .to) ≡ longest matrix = sym (cond-true _ 0 t) ∙ f .far in
@@ -86,33 +88,46 @@ module _ (m : Model) (valid : Valid m) (groups : Grouping) (all-machines : lengt
           f .to,
           rw n at (f .from-below),
           q,
-          rw (← e) (shortest-between (f .from) (f .to) q (connected-size m groups first h (f .from) (f .to) t)),
+          rw (← e) (shortest-between (f .from) (f .to) q (connected-size o h (f .from) (f .to) t)),
         ))
         (λ c.
         let e : 0 ≡ longest matrix = sym (cond-false (between matrix (f .from) (f .to)) 0 c) ∙ f .far in
-        let z = between-self m groups first h 0 o in
-        (0, 0, o, o, subst (λ n. ShortestRoute m groups k n 0 0) (z ∙ e) (shortest-between 0 0 o (rw z o))))
+        let z = between-self o h 0 some in
+        (0, 0, some, some, subst (λ n. ShortestRoute m groups k n 0 0) (z ∙ e) (shortest-between 0 0 some (rw z some))))
 
-  pub bound-right : (bound : ℕ) → bound ≡ boundOf m groups (allRoutes m groups) → BoundRight m groups bound
+  -- the outside groups that the moves of k name
+  named-exactly : (k a : ℕ) → List·Memᴰ a (namedOutside m groups k (movesOf m groups k))
+      ↔ ((v : ℕ) × MoveOf m groups v k × NamesOutside m groups v a)
+  named-exactly k a =
+      let r = named-mean m groups (o .all-machines) (o .valid) a k _ (λ v. moves-mean m groups v k .0) in (
+        λ l. let (v, v-in, n) = r .0 l in (v, moves-mean m groups v k .0 v-in, n),
+        λ b. let (v, own, n) = b in r .1 (v, moves-mean m groups v k .1 own, n),
+      )
+
+  named-once : (k : ℕ) → Rising (namedOutside m groups k (movesOf m groups k))
+  unfolding namedOutside
+  named-once k = filter-rises _ (groupCount groups)
+
+  pub bound-right : (bound : ℕ) → bound ≡ planBound m groups (allRoutes m groups) → BoundRight m groups bound
   bound-right bound e =
       record {
         longest = longestOf m groups;
-        cost = costOf m groups (allRoutes m groups);
         none-longer = λ k d p q h. none-longer h d p q;
         one-as-long = λ k h. one-as-long h;
-        cost-is = λ k h. cost-rule m groups (allRoutes m groups) first h;
+        named = λ k. namedOutside m groups k (movesOf m groups k);
+        named-exactly = λ k a h. named-exactly k a;
+        named-once = named-once;
+        cost = costOf m groups (allRoutes m groups);
+        cost-is = λ k h. cost-rule m groups (allRoutes m groups) (o .first) h;
         sum-of-costs = e ∙ bound-sum m groups (allRoutes m groups);
       }
 
 pub bounds-right : BoundsRight
-bounds-right m valid =
-    let g = groups-right m valid in
-    bound-right m valid (groupsOf m) (g .numbers-all) (needs-first-test valid g) (ownBound m) refl
+bounds-right m valid = bound-right (own-ordered valid) (ownBound m) refl
 
 -- a shortest route is shorter than its group is large
-pub few-moves : (m : Model) → Valid m → SmallGroups m (groupsOf m) → (k d p q : ℕ) → k < groupCount (groupsOf m)
+pub few-moves : {m : Model} → Valid m → SmallGroups m (groupsOf m) → (k d p q : ℕ) → k < groupCount (groupsOf m)
     → q < size m (groupsOf m) k → ShortestRoute m (groupsOf m) k d p q → d < 64
-few-moves m valid small k d p q h hq s =
-    let first = needs-first-test valid (groups-right m valid) in
-    let l = between-below m (groupsOf m) first h p q hq (s .0) in
-    omega (arith, s .1 _ (route-of-between m (groupsOf m) first h p q l), l, small k h)
+few-moves valid small k d p q h hq s =
+    let l = between-below (own-ordered valid) h p q hq (s .0) in
+    omega (arith, s .1 _ (route-of-between (own-ordered valid) h p q l), l, small k h)

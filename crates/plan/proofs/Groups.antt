@@ -2,37 +2,28 @@
 -- numbers have no gaps, and the smallest machine comes next. Then the two tests of a plan's group numbers hold.
 -- Assumes nothing.
 use Prim.Native.Nat.{ℕ, suc, _≤_, _<_}
-use mathlib.Core.Path.{_≡_, sym, _∙_}
+use mathlib.Core.Path.{_≡_, _∙_}
 use mathlib.Core.List.{[], _∷_, map, List·Memᴰ, Memᴰ·of-map}
 use mathlib.Core.Bool.{true}
 use native.Mathlib.Omega.{arith}
-use borrow.Author.Tests.{eq-eqb, le-leb}
-use lib.Dec.{eqb}
 use lib.ListN.{length}
-use Rattle.common.specs.Lists.{upTo, maximum}
+use Rattle.common.specs.Lists.{maximum}
 use Rattle.common.specs.Graph.{Graph, successors, distances}
-use Rattle.common.proofs.Members.{mem-getD, mem-index, upTo-below}
-use Rattle.common.proofs.Lists.{all-intro, any-intro}
+use Rattle.common.proofs.Members.{mem-getD, mem-index}
 use Rattle.common.proofs.Sums.{maximum-mem}
-use Rattle.common.proofs.Search.{find-upTo-least}
-use Rattle.sheet.specs.Model.{Model, machineCount}
+use Rattle.sheet.specs.Model.{Model, machineCount, moveAt, noMove}
 use Rattle.sheet.specs.Valid.{Valid}
 use Rattle.plan.specs.Needs.{needGraph, Reaches}
-use Rattle.plan.specs.Groups.{Grouping, groupOf, groupCount, smallestMember, numberedUpto, groupsOf}
+use Rattle.plan.specs.Groups.{Grouping, groupOf, groupCount, numberedUpto, groupsOf}
 use Rattle.plan.specs.Reading.{gapless, needsFirst}
 use Rattle.plan.specs.Meaning.{GroupsRight}
 use Rattle.plan.proofs.Named.{group-below-count, move-valid, guard-valid}
+use Rattle.plan.proofs.Words.{gapless-means, first-means}
 use Rattle.plan.proofs.Needs.{guard-needs, length-needGraph, need-successor, successor-need}
 use Rattle.plan.proofs.Needs.{connected-reaches, reaches-connected}
 use Rattle.plan.proofs.Together.{joined-there, joined-back, there-back}
 use Rattle.plan.proofs.Rounds.{firstAt, length-round, number-joined}
-use Rattle.plan.proofs.Numbering.{NeedsBelow, number-first, number-used, number-smallest, same-joined}
-
--- the smallest machine of a group is at most any machine of it
-pub smallest-member-least : (groups : Grouping) (k i : ℕ) → i < length groups → groupOf groups i ≡ k
-    → smallestMember groups k ≤ i
-unfolding smallestMember
-smallest-member-least groups k i h e = find-upTo-least _ 0 i h (eq-eqb _ _ e)
+use Rattle.plan.proofs.Numbering.{NeedsBelow, number-given, number-first, number-used, number-smallest, same-joined}
 
 -- some machine has the highest number
 pub highest-group : (groups : Grouping) (k : ℕ) → k < groupCount groups
@@ -82,11 +73,9 @@ module _ (m : Model) where
       (omega (arith, length-needGraph m), e)
 
   rounds-smallest : (k j : ℕ) → k < groupCount rounds → j < machineCount m → k ≤ groupOf rounds j
-      → NeedsBelow own closed k j → smallestMember rounds k ≤ j
+      → NeedsBelow own closed k j → (i : ℕ) × (groupOf rounds i ≡ k) × (i ≤ j)
   rounds-smallest k j hk hj l below =
-      let (h, e) = rounds-used k hk in
-      let first = number-smallest own closed k j (node hj) l below in
-      omega (arith, smallest-member-least rounds k (firstAt own k) (rw length-rounds h) e)
+      (firstAt own k, rounds-used k hk .1, number-smallest own closed k j (node hj) l below)
 
   rounds-right : GroupsRight m rounds
   rounds-right =
@@ -107,19 +96,19 @@ module _ (m : Model) where
   pub groups-right : Valid m → GroupsRight m (groupsOf m)
   groups-right valid = groups-of-any
 
+  -- there are no more groups than machines
+  pub number-small : (i : ℕ) → i < machineCount m → groupOf (groupsOf m) i < machineCount m
+  number-small i h = rw groups-rounds (omega (arith, number-given own closed i (node h), length-needGraph m))
+
 -- The tests of a plan's group numbers hold for any grouping that is right
 
 module _ {m : Model} {groups : Grouping} where
   pub gapless-test : GroupsRight m groups → gapless groups ≡ true
-  unfolding gapless
-  gapless-test right =
-      all-intro _ (upTo (groupCount groups)) (λ k l.
-      let (i, h, e) = right .gapless k (upTo-below (groupCount groups) l) in
-      any-intro (eqb k) (mem-getD groups i 0 (rw (right .numbers-all) h)) (eq-eqb _ _ (sym e)))
+  gapless-test right = gapless-means groups .1 (rw (right .numbers-all) (right .gapless))
 
   pub needs-first-test : Valid m → GroupsRight m groups → needsFirst m groups ≡ true
-  unfolding needsFirst
   needs-first-test valid right =
-      all-intro _ (m .moves) (λ v v-in. all-intro _ (v .guards) (λ g g-in.
-      le-leb _ _ (right .needs-first (v .machine) (g .machine)
-      (move-valid valid v-in .present) (guard-valid valid v-in g-in .present) (guard-needs m v-in g-in))))
+      first-means m groups .1 (λ v g h l.
+      let v-in = mem-getD (m .moves) v noMove h in
+      right .needs-first (moveAt m v .machine) (g .machine)
+      (move-valid valid v-in .present) (guard-valid valid v-in l .present) (guard-needs m v-in l))

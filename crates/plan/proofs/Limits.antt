@@ -18,9 +18,9 @@ use Rattle.sheet.specs.Model.{Model}
 use Rattle.plan.specs.Groups.{Grouping, groupOf, groupCount, members, smallestMember}
 use Rattle.plan.specs.Modes.{size}
 use Rattle.plan.specs.Routes.{routesUpto}
-use Rattle.plan.specs.Bound.{boundOf}
+use Rattle.plan.specs.Bound.{planBound}
 use Rattle.plan.specs.Bytes.{planLength}
-use Rattle.plan.specs.Meaning.{FirstLarge}
+use Rattle.plan.specs.Promised.{FirstLarge}
 use Rattle.plan.specs.Planning.{large, largeGroup, largePlace, largePlan, largeBound, wrongBuffer}
 
 -- What each test tells
@@ -35,7 +35,7 @@ module _ (m : Model) (groups : Grouping) where
   unfolding largePlan
   no-large-plan f = ltb-false 16384 _ f
 
-  pub no-large-bound : largeBound m groups ≡ false → boundOf m groups (routesUpto m groups (groupCount groups)) ≤ 65535
+  pub no-large-bound : largeBound m groups ≡ false → planBound m groups (routesUpto m groups (groupCount groups)) ≤ 65535
   unfolding largeBound
   no-large-bound f = ltb-false 65535 _ f
 

@@ -91,8 +91,8 @@ module _ (m : Model) (groups : Grouping) where
       let b = named-by k moves l in
       named-in (named-below k moves l) (named-other k moves l) (b .0, f (b .0) (b .1), b .2, b .3, b .4)
 
-  pub named-of-move : {v a : ℕ} (k : ℕ) → List·Memᴰ v (movesOf m groups k)
-      → List·Memᴰ a (namedOutside m groups k (v ∷ [])) → List·Memᴰ a (namedOutside m groups k (movesOf m groups k))
+  pub named-of-move : {v a : ℕ} {moves : List ℕ} (k : ℕ) → List·Memᴰ v moves
+      → List·Memᴰ a (namedOutside m groups k (v ∷ [])) → List·Memᴰ a (namedOutside m groups k moves)
   named-of-move {v} k l =
       named-more k (v ∷ []) (λ w w-is. Memᴰ·cast (List·Memᴰ·eq-of-singleton w-is) l)
 

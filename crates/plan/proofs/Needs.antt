@@ -4,40 +4,22 @@ use Prim.Native.Nat.{ℕ, suc, _<_}
 use mathlib.Core.Path.{_≡_, refl}
 use mathlib.Core.List.{[], List·Memᴰ}
 use mathlib.Core.Bool.{true}
-use borrow.Author.Tests.{eqb-true, eq-eqb}
-use lib.Dec.{eqb}
 use lib.ListN.{length}
 use Rattle.common.specs.Lists.{upTo, filter}
 use Rattle.common.specs.Graph.{successors, Chain, here, step, distances, connected}
-use Rattle.common.proofs.Bools.{and-intro, and-left, and-right}
 use Rattle.common.proofs.Members.{upTo-mem, upTo-below, length-map-upTo, getD-map-upTo}
-use Rattle.common.proofs.Lists.{any-intro, any-some}
 use Rattle.common.proofs.Lists.{filter-mem, filter-from, filter-holds}
 use Rattle.common.proofs.Graph.{successor-of-node, connected-chain, chain-connected}
 use Rattle.sheet.specs.Model.{Guard, Move, Model, machineCount}
-use Rattle.plan.specs.Needs.{names, needs, needGraph, Reaches, itself, through}
+use Rattle.plan.specs.Needs.{needs, needGraph, Needs, Reaches, itself, through}
+use Rattle.plan.proofs.Words.{needs-means}
 
 module _ (m : Model) where
-  -- a guard of a move of i is on j
-  abbrev pub NeededBy : ℕ → ℕ → Type 0
-  NeededBy i j =
-      (v : Move) × List·Memᴰ v (m .moves) × (v .machine ≡ i) × (g : Guard) × List·Memᴰ g (v .guards) × (g .machine ≡ j)
-
-  pub needs-by : (i j : ℕ) → needs m i j ≡ true → NeededBy i j
-  unfolding needs names
-  needs-by i j t =
-      let r = any-some _ (m .moves) t in
-      let s = any-some _ (r .0 .guards) (and-right (eqb (r .0 .machine) i) _ (r .2)) in
-      (r .0, r .1, eqb-true _ _ (and-left _ _ (r .2)), s .0, s .1, eqb-true _ _ (s .2))
-
-  pub by-needs : {i j : ℕ} → NeededBy i j → needs m i j ≡ true
-  unfolding needs names
-  by-needs b = any-intro _ (b .1) (and-intro (eq-eqb _ _ (b .2)) (any-intro _ (b .4) (eq-eqb _ _ (b .5))))
-
   -- a guard is a need of its move's machine
   pub guard-needs : {v : Move} {g : Guard} → List·Memᴰ v (m .moves) → List·Memᴰ g (v .guards)
-      → needs m (v .machine) (g .machine) ≡ true
-  guard-needs {v} {g} v-in g-in = by-needs (v, v-in, refl, g, g-in, refl)
+      → Needs m (v .machine) (g .machine)
+  guard-needs {v} {g} v-in g-in =
+      record { move = v; listed = v-in; its-own = refl; need = g; among = g-in; on = refl }
 
   -- The graph
 
@@ -50,17 +32,18 @@ module _ (m : Model) where
   unfolding needGraph successors
   successors-needGraph i h = getD-map-upTo _ [] h
 
-  pub need-successor : {i j : ℕ} → i < machineCount m → j < machineCount m → needs m i j ≡ true
+  pub need-successor : {i j : ℕ} → i < machineCount m → j < machineCount m → Needs m i j
       → List·Memᴰ j (successors (needGraph m) i)
-  need-successor {i} hi hj t = rw (successors-needGraph i hi) (filter-mem (needs m i) (upTo-mem hj) t)
+  need-successor {i} {j} hi hj n =
+      rw (successors-needGraph i hi) (filter-mem (needs m i) (upTo-mem hj) (needs-means m i j .1 n))
 
   pub successor-need : {j : ℕ} (i : ℕ) → List·Memᴰ j (successors (needGraph m) i)
-      → (i < machineCount m) × (j < machineCount m) × (needs m i j ≡ true)
+      → (i < machineCount m) × (j < machineCount m) × Needs m i j
   successor-need {j} i l =
       let h : i < machineCount m = rw length-needGraph at (successor-of-node (needGraph m) i l) in
       let f = rw (successors-needGraph i h) at l in
       let n = machineCount m in
-      (h, upTo-below n (filter-from (needs m i) (upTo n) f), filter-holds (needs m i) (upTo n) f)
+      (h, upTo-below n (filter-from (needs m i) (upTo n) f), needs-means m i j .0 (filter-holds (needs m i) (upTo n) f))
 
   -- Its chains
 

@@ -1,42 +1,42 @@
 -- A plan whose groups, entries and bound read back as the computed ones has the laws of a plan.
 -- Assumes nothing.
 use Prim.Native.Nat.{ℕ, suc, _≤_, _<_}
-use mathlib.Core.Path.{_≡_, refl, ap, subst, _∙_}
+use mathlib.Core.Path.{_≡_, refl, subst, _∙_}
 use mathlib.Core.List.{List, [], _∷_, List·Memᴰ}
 use mathlib.Core.Bool.{true}
 use native.Mathlib.Omega.{arith}
-use lib.ListN.{length, getD}
-use Rattle.sheet.specs.Model.{Model, machineCount, moveAt}
-use Rattle.sheet.specs.Valid.{Valid}
+use lib.ListN.{getD}
+use Rattle.sheet.specs.Model.{Model, moveCount, moveAt}
 use Rattle.plan.specs.Groups.{Grouping, groupOf, groupCount, movesOf, namedOutside}
 use Rattle.plan.specs.Modes.{size, liveMode}
 use Rattle.plan.specs.Usable.{meets, leads, target}
-use Rattle.plan.specs.Reading.{needsFirst, groupsIn, entryAt, boundIn, wellShaped}
+use Rattle.plan.specs.Reading.{groupsIn, entryAt, boundIn, wellShaped}
 use Rattle.plan.specs.Routes.{usableMoves}
 use Rattle.plan.specs.Table.{entryOf}
-use Rattle.plan.specs.Bound.{longest, boundOf}
+use Rattle.plan.specs.Bound.{longest, planBound}
 use Rattle.plan.specs.Meaning.{Route, Usable, EntryRight, here, move, always}
-use Rattle.plan.specs.Laws.{PlanLaws, Connects, IsDistance}
+use Rattle.plan.specs.Laws.{TableLaws, RouteLaws, CostLaws, PlanLaws, counted, Connects, IsDistance}
 use Rattle.plan.proofs.Named.{named-below}
 use Rattle.plan.proofs.Routes.{allRoutes}
-use Rattle.plan.proofs.Steps.{target-below}
-use Rattle.plan.proofs.Usable.{stays-live}
+use Rattle.plan.proofs.Words.{live-means, meets-means, named-means}
+use Rattle.plan.proofs.Steps.{target-step, step-own, step-leads, step-target}
+use Rattle.plan.proofs.Usable.{Ordered, stays-live}
 use Rattle.plan.proofs.Distances.{route-append, route-zero, between-longest}
 use Rattle.plan.proofs.Entries.{entry-near, near-of-distance, entry-route, entry-at-most, entry-connects}
 use Rattle.plan.proofs.Entries.{entry-right}
 use Rattle.plan.proofs.EntryBytes.{entry-bytes}
+use Rattle.plan.proofs.Counted.{counted-planned}
 use Rattle.plan.proofs.Costs.{costOf, cost-rule, bound-sum}
 
 -- what a plan says over these groups is what is computed from them
 pub record ReadsBack (m : Model) (groups : Grouping) (plan : List ℕ) : Type 0 where
-  pub all-machines : length groups ≡ machineCount m
-  pub first : needsFirst m groups ≡ true
+  pub ordered : Ordered m groups
   pub small : (k : ℕ) → k < groupCount groups → size m groups k ≤ 64
   pub shaped : wellShaped m plan ≡ true
   pub entry-read : (k p q : ℕ) → k < groupCount groups → p < size m groups k → q < size m groups k
       → entryAt m plan k p q
       ≡ entryOf m groups k (usableMoves m groups (allRoutes m groups) k) (getD (allRoutes m groups) k []) p q
-  pub bound-read : boundIn m plan ≡ boundOf m groups (allRoutes m groups)
+  pub bound-read : boundIn m plan ≡ planBound m groups (allRoutes m groups)
 
 -- L of each group
 abbrev pub longestOf : Model → Grouping → ℕ → ℕ
@@ -49,51 +49,58 @@ LawsFor m plan groups = PlanLaws m plan (Usable m groups) (longestOf m groups) (
 module _ (m : Model) (groups : Grouping) (plan : List ℕ) (reads : ReadsBack m groups plan) where
   module _ (k p q : ℕ) (h : k < groupCount groups) (hp : p < size m groups k) (hq : q < size m groups k) where
     pub own-entry : EntryRight m groups k p q (entryAt m plan k p q)
-    own-entry = rw (reads .entry-read k p q h hp hq) (entry-right m groups (reads .first) h p q hp hq (reads .small k h))
+    own-entry = rw (reads .entry-read k p q h hp hq) (entry-right (reads .ordered) h p q hp hq (reads .small k h))
 
     pub own-route : Connects m plan k p q → Route m groups k (entryAt m plan k p q .distance) p q
     own-route = rw (reads .entry-read k p q h hp hq) (λ c.
-        entry-route m groups (reads .first) h p q hp hq (λ e. omega arith))
+        entry-route (reads .ordered) h p q hp hq (λ e. omega arith))
 
     module _ {c : ℕ} (r : Route m groups k c p q) where
       pub own-at-most : entryAt m plan k p q .distance ≤ c
       own-at-most =
           rw (reads .entry-read k p q h hp hq)
-          (entry-at-most m groups (reads .first) h p q hp hq r)
+          (entry-at-most (reads .ordered) h p q hp hq r)
 
       pub own-connects : Connects m plan k p q
       own-connects =
           rw (reads .entry-read k p q h hp hq)
-          (entry-connects m groups (reads .first) h p q hp hq (reads .small k h) r)
+          (entry-connects (reads .ordered) h p q hp hq (reads .small k h) r)
 
     pub own-longest : Connects m plan k p q → entryAt m plan k p q .distance ≤ longestOf m groups k
     own-longest =
         rw (reads .entry-read k p q h hp hq) (λ c.
-        let b = near-of-distance m groups (reads .first) h p q hp hq refl (λ e. omega arith) in
+        let b = near-of-distance (reads .ordered) h p q hp hq refl (λ e. omega arith) in
         omega (
           arith,
-          entry-near m groups (reads .first) h p q hp hq (b .0),
-          between-longest m groups (reads .first) h p q hp hq (b .0),
+          entry-near (reads .ordered) h p q hp hq (b .0),
+          between-longest (reads .ordered) h p q hp hq (b .0),
         ))
 
-  pub own-bytes : Valid m → (k p q : ℕ) → k < groupCount groups → p < size m groups k → q < size m groups k
+  pub own-bytes : (k p q : ℕ) → k < groupCount groups → p < size m groups k → q < size m groups k
       → entryAt m plan k p q .distance ≤ 255
-  own-bytes valid k p q h hp hq =
+  own-bytes k p q h hp hq =
       rw (reads .entry-read k p q h hp hq)
-      (omega (arith, entry-bytes m valid groups (reads .first) h (reads .small k h) p q hp hq .0))
+      (omega (arith, entry-bytes (reads .ordered) h (reads .small k h) p q hp hq .0))
 
   -- a usable move's needs on an outside group can be met from every live mode
-  pub own-met : (v a p : ℕ) → Usable m groups v
+  pub own-met : (v a p : ℕ) → v < moveCount m → Usable m groups v
       → List·Memᴰ a (namedOutside m groups (groupOf groups (moveAt m v .machine)) (v ∷ []))
       → p < size m groups a → liveMode m groups a p ≡ true
       → (q : ℕ) × (q < size m groups a) × (meets m groups a (moveAt m v) q ≡ true) × Connects m plan a p q
-  own-met v a p (always to steps ends ways) n hp live =
-      let r = ends a p n hp live in
-      (to a p, r .0, r .1, own-connects a p (to a p) (named-below m groups _ _ n) hp (r .0) (ways a p n hp live))
+  own-met v a p h (always to steps ends ways) l hp t =
+      let o = reads .ordered in
+      let n = named-means m groups (o .all-machines) (o .valid) a h .0 l in
+      let live = live-means m groups (o .all-machines) a p .0 t in
+      let (below, met) = ends a p n hp live in
+      let c = own-connects a p (to a p) (named-below m groups _ _ l) hp below (ways a p n hp live) in
+      (to a p, below, meets-means m groups v a _ .1 met, c)
 
 -- The laws, over the groups that the plan writes
 
-module _ (m : Model) (valid : Valid m) (plan : List ℕ) (reads : ReadsBack m (groupsIn m plan) plan) where
+module _ (m : Model) (plan : List ℕ) (reads : ReadsBack m (groupsIn m plan) plan) where
+  abbrev o : Ordered m (groupsIn m plan)
+  o = reads .ordered
+
   abbrev own : Grouping
   own = groupsIn m plan
 
@@ -111,31 +118,50 @@ module _ (m : Model) (valid : Valid m) (plan : List ℕ) (reads : ReadsBack m (g
       × (leads m own k (moveAt m (entryAt m plan k p q .move)) p ≡ true)
       × (entryAt m plan k (target m own k (moveAt m (entryAt m plan k p q .move)) p) q .distance ≤ d)
   own-first k p q d h hp hq i =
-      let r = entries k p q h hp hq .first d (i .0) (λ e. omega arith) in
-      let within = target-below m valid own (reads .all-machines) k (r .0) hp (r .2) in
-      (r .0, r .1, r .2, own-at-most m own plan reads k _ q h within hq (r .3))
+      let (u, (r, s, on)) = entries k p q h hp hq .first d (i .0) (λ e. omega arith) in (
+        step-own m (o .valid) own (o .all-machines) s,
+        u,
+        step-leads m (o .valid) own (o .all-machines) s,
+        rw (step-target m (o .valid) own (o .all-machines) s) (own-at-most m own plan reads k r q h (s .wanted) hq on),
+      )
 
-  pub laws-of-plan : LawsFor m plan own
-  laws-of-plan =
+  table-laws : TableLaws m plan (Usable m own) (longestOf m own)
+  table-laws =
       record {
         shaped = reads .shaped;
-        byte-entries = own-bytes m own plan reads valid;
-        zero-self = λ k p h hp. ap (λ e. e .distance) (entries k p p h hp hp .itself refl);
+        byte-entries = own-bytes m own plan reads;
+        zero-self = λ k p h hp. entries k p p h hp hp .itself refl .0;
         self-zero = λ k p q h hp hq z. route-zero (entries k p q h hp hq .shortest 0 (λ e. omega arith) .0 z .0);
         first-move = own-first;
+        always-met = own-met m own plan reads;
+        at-most-longest = own-longest m own plan reads;
+      }
+
+  route-laws : RouteLaws m plan (Usable m own)
+  route-laws =
+      record {
         move-connects = λ k p v h hp l u t.
-            own-connects m own plan reads k p _ h hp
-            (target-below m valid own (reads .all-machines) k l hp t) (move v l u hp t here);
+            let s = target-step m (o .valid) own (o .all-machines) k l hp t in
+            own-connects m own plan reads k p _ h hp (s .wanted) (move v _ u s here);
         connects-compose = λ k p q r h hp hq hr i j.
             own-connects m own plan reads k p r h hp hr (route-append (route k p q h hp hq i) (route k q r h hq hr j));
-        connects-live = λ k p q h hp hq i. stays-live m valid own (reads .all-machines) k _ p q (route k p q h hp hq i);
-        always-met = λ v a p h. own-met m own plan reads v a p;
-        at-most-longest = own-longest m own plan reads;
-        cost-is = λ k h. cost-rule m own (allRoutes m own) (reads .first) h;
+        connects-live = λ k p q h hp hq i t.
+            let live = live-means m own (o .all-machines) k in
+            live q .1 (stays-live (o .valid) own k _ p q (route k p q h hp hq i) (live p .0 t));
+      }
+
+  cost-laws : CostLaws m plan (counted m plan) (longestOf m own) (costOf m own (allRoutes m own))
+  cost-laws =
+      record {
+        cost-is = λ k h. rw (counted-planned m plan k) (cost-rule m own (allRoutes m own) (o .first) h);
         bound-is = reads .bound-read ∙ bound-sum m own (allRoutes m own);
       }
 
+  pub laws-of-plan : LawsFor m plan own
+  laws-of-plan =
+      record { tables = table-laws; routes = route-laws; costs = cost-laws }
+
 -- and over the computed groups, where the plan writes these
-pub own-laws : (m : Model) → Valid m → (plan : List ℕ) {groups : Grouping} → groupsIn m plan ≡ groups
+pub own-laws : (m : Model) (plan : List ℕ) {groups : Grouping} → groupsIn m plan ≡ groups
     → ReadsBack m groups plan → LawsFor m plan groups
-own-laws m valid plan e = subst (λ own. ReadsBack m own plan → LawsFor m plan own) e (laws-of-plan m valid plan)
+own-laws m plan e = subst (λ own. ReadsBack m own plan → LawsFor m plan own) e (laws-of-plan m plan)

@@ -16,12 +16,13 @@ use Rattle.plan.specs.Needs.{needGraph}
 use Rattle.plan.specs.Groups.{Grouping, groupCount, groupsOf, withNumber, numberedUpto}
 use Rattle.plan.specs.Modes.{size}
 use Rattle.plan.specs.Routes.{routesUpto}
-use Rattle.plan.specs.Bound.{boundOf}
+use Rattle.plan.specs.Bound.{planBound}
 use Rattle.plan.specs.Bytes.{planLength}
 use Rattle.plan.specs.Planning.{largeGroup, largePlace, largePlan, largeBound, sizeFaults, wrongBuffer}
 use Rattle.plan.specs.Planning.{ownPlan, lengthReply, planReply}
 use Rattle.plan.proofs.Limits.{no-large-group, no-large-plan, no-large-bound, right-buffer, right-scratch}
-use Rattle.plan.proofs.ReadBack.{Writable, length-bytesOf}
+use Rattle.plan.proofs.Laid.{laid-length}
+use Rattle.plan.proofs.ReadBack.{plan-laid}
 
 -- The length of the plan
 
@@ -37,7 +38,7 @@ length-groupsOf m =
 
 pub length-ownPlan : (m : Model) → length (ownPlan m) ≡ planLength m (groupsOf m)
 unfolding ownPlan
-length-ownPlan m = length-bytesOf m (groupsOf m) _ (length-groupsOf m)
+length-ownPlan m = laid-length (plan-laid m (groupsOf m) _ (length-groupsOf m))
 
 -- what a sheet has passed that is planned
 pub record Accepted (m : Model) (plan : List ℕ) (buffer scratch : ℕ) : Type 0 where
@@ -45,14 +46,9 @@ pub record Accepted (m : Model) (plan : List ℕ) (buffer scratch : ℕ) : Type 
   pub small-groups : (k : ℕ) → k < groupCount (groupsOf m) → size m (groupsOf m) k ≤ 64
   pub small-plan :
       sum (map (λ k. size m (groupsOf m) k * size m (groupsOf m) k) (upTo (groupCount (groupsOf m)))) ≤ 16384
-  pub small-bound : boundOf m (groupsOf m) (routesUpto m (groupsOf m) (groupCount (groupsOf m))) ≤ 65535
+  pub small-bound : planBound m (groupsOf m) (routesUpto m (groupsOf m) (groupCount (groupsOf m))) ≤ 65535
   pub right-buffer : buffer ≡ planLength m (groupsOf m)
   pub right-scratch : scratch ≡ 4096
-
-pub accepted-writable : {m : Model} {plan : List ℕ} {buffer scratch : ℕ} → Accepted m plan buffer scratch
-    → machineCount m ≤ 32 → Writable m (groupsOf m)
-accepted-writable {m} a h =
-    record { numbers-all = length-groupsOf m; few-machines = h; small-groups = a .small-groups }
 
 pub accepted-length : {m : Model} {plan : List ℕ} {buffer scratch : ℕ} → Accepted m plan buffer scratch
     → length plan ≡ planLength m (groupsOf m)

@@ -13,7 +13,7 @@ use Rattle.plan.specs.Groups.{Grouping, groupCount, groupsOf}
 use Rattle.plan.specs.Modes.{size}
 use Rattle.plan.specs.Bytes.{planLength}
 use Rattle.plan.specs.Planning.{large, largeGroup, largePlace, largePlan, largeBound, wrongBuffer}
-use Rattle.plan.specs.Meaning.{SmallGroups, squares, ownBound, Replied}
+use Rattle.plan.specs.Promised.{SmallGroups, squares, ownBound, Replied}
 use Rattle.plan.proofs.Limits.{large-place, right-buffer, right-scratch}
 use Rattle.plan.proofs.Planning.{plan-refused-9, plan-refused-10, plan-refused-11, plan-refused-12, plan-given}
 use Rattle.plan.proofs.Planning.{length-refused-9, length-refused-10, length-given}

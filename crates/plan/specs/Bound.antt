@@ -13,11 +13,12 @@ unfoldable pub longest : Matrix → ℕ
 longest d =
     maximum (map (λ p. maximum (map (λ q. cond (connected d p q) (between d p q) 0) (upTo (length d)))) (upTo (length d)))
 
-module _ (m : Model) (groups : Grouping) (routes : List Matrix) where
+-- Costs, given for each group those of its moves that count as naming other groups
+module _ (m : Model) (groups : Grouping) (counting : ℕ → List ℕ) (routes : List Matrix) where
   -- the cost of group k, given those of the lower groups: for each of L moves, itself and what preparing it may cost
   unfoldable pub costIn : List ℕ → ℕ → ℕ
   costIn lower k =
-      longest (getD routes k []) * (1 + sum (map (λ a. getD lower a 0) (namedOutside m groups k (movesOf m groups k))))
+      longest (getD routes k []) * (1 + sum (map (λ a. getD lower a 0) (namedOutside m groups k (counting k))))
 
   -- the costs of the first n groups
   unfoldable pub costsUpto : ℕ → List ℕ
@@ -29,3 +30,7 @@ module _ (m : Model) (groups : Grouping) (routes : List Matrix) where
   -- what all groups cost together
   unfoldable pub boundOf : ℕ
   boundOf = sum (costsUpto (groupCount groups))
+
+-- the bound that planning writes: all moves count
+unfoldable pub planBound : Model → Grouping → List Matrix → ℕ
+planBound m groups routes = boundOf m groups (movesOf m groups) routes

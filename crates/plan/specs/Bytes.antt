@@ -10,7 +10,7 @@ use Rattle.plan.specs.Groups.{Grouping, groupCount}
 use Rattle.plan.specs.Modes.{size}
 use Rattle.plan.specs.Routes.{usableMoves}
 use Rattle.plan.specs.Table.{tableOf}
-use Rattle.plan.specs.Bound.{boundOf}
+use Rattle.plan.specs.Bound.{planBound}
 
 -- four bytes, little-endian
 unfoldable pub fourBytes : ℕ → List ℕ
@@ -26,7 +26,7 @@ module _ (m : Model) (groups : Grouping) where
   bytesOf routes =
       recordOf 16 groups
       ++ flatMap (λ k. recordOf 17 (tableIn routes k)) (upTo (groupCount groups))
-      ++ recordOf 18 (fourBytes (boundOf m groups routes))
+      ++ recordOf 18 (fourBytes (planBound m groups routes))
       ++ recordOf 3 []
 
   -- the length of a group's table

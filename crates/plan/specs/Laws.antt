@@ -22,44 +22,59 @@ IsDistance m plan k p q d = (entryAt m plan k p q .distance ≡ d) × (d < 255)
 abbrev pub Connects : Model → List ℕ → ℕ → ℕ → ℕ → Type 0
 Connects m plan k p q = entryAt m plan k p q .distance < 255
 
+-- those moves of group k that count as naming other groups, under a plan: all of the group
+unfoldable pub counted : Model → List ℕ → ℕ → List ℕ
+counted m plan k = movesOf m (groupsIn m plan) k
+
 module _ (m : Model) (plan : List ℕ) where
   abbrev groups : Grouping
   groups = groupsIn m plan
 
-  -- `IsUsable` says which moves are usable, `longest` and `cost` give L and the cost of each group
-  pub record PlanLaws (IsUsable : ℕ → Type 0) (longest cost : ℕ → ℕ) : Type 0 where
+  -- The tables; `IsUsable` says which moves are usable, `longest` gives L of each group.
+  pub record TableLaws (IsUsable : ℕ → Type 0) (longest : ℕ → ℕ) : Type 0 where
     pub shaped : wellShaped m plan ≡ true
     -- entries are bytes
     pub byte-entries : (k p q : ℕ) → k < groupCount groups → p < size m groups k → q < size m groups k
         → entryAt m plan k p q .distance ≤ 255
-    -- 1: the distance is 0 exactly from a mode to itself
+    -- the distance is 0 exactly from a mode to itself
     pub zero-self : (k p : ℕ) → k < groupCount groups → p < size m groups k → entryAt m plan k p p .distance ≡ 0
     pub self-zero : (k p q : ℕ) → k < groupCount groups → p < size m groups k → q < size m groups k
         → entryAt m plan k p q .distance ≡ 0 → p ≡ q
-    -- 2: at distance d + 1 the first move is usable, leads from p, and leaves at most d
+    -- at distance d + 1 the first move is usable, leads from p, and leaves at most d
     pub first-move : (k p q d : ℕ) → k < groupCount groups → p < size m groups k → q < size m groups k
         → IsDistance m plan k p q (suc d)
         → List·Memᴰ (entryAt m plan k p q .move) (movesOf m groups k) × IsUsable (entryAt m plan k p q .move)
         × (leads m groups k (moveAt m (entryAt m plan k p q .move)) p ≡ true)
         × (entryAt m plan k (target m groups k (moveAt m (entryAt m plan k p q .move)) p) q .distance ≤ d)
-    -- 3: a usable move makes a route; routes compose; a route from a live mode ends in one
+    -- a usable move's needs on an outside group can be met from every live mode
+    pub always-met : (v a p : ℕ) → v < moveCount m → IsUsable v
+        → List·Memᴰ a (namedOutside m groups (groupOf groups (moveAt m v .machine)) (v ∷ []))
+        → p < size m groups a → liveMode m groups a p ≡ true
+        → (q : ℕ) × (q < size m groups a) × (meets m groups a (moveAt m v) q ≡ true) × Connects m plan a p q
+    -- no route is longer than L
+    pub at-most-longest : (k p q : ℕ) → k < groupCount groups → p < size m groups k → q < size m groups k → Connects m plan k p q
+        → entryAt m plan k p q .distance ≤ longest k
+
+  -- The routes: a usable move makes one; they compose; one from a live mode ends in a live mode.
+  pub record RouteLaws (IsUsable : ℕ → Type 0) : Type 0 where
     pub move-connects : (k p v : ℕ) → k < groupCount groups → p < size m groups k → List·Memᴰ v (movesOf m groups k) → IsUsable v
         → leads m groups k (moveAt m v) p ≡ true → Connects m plan k p (target m groups k (moveAt m v) p)
     pub connects-compose : (k p q r : ℕ) → k < groupCount groups → p < size m groups k → q < size m groups k → r < size m groups k
         → Connects m plan k p q → Connects m plan k q r → Connects m plan k p r
     pub connects-live : (k p q : ℕ) → k < groupCount groups → p < size m groups k → q < size m groups k → Connects m plan k p q
         → liveMode m groups k p ≡ true → liveMode m groups k q ≡ true
-    -- 4: a usable move's needs on an outside group can be met from every live mode
-    pub always-met : (v a p : ℕ) → v < moveCount m → IsUsable v
-        → List·Memᴰ a (namedOutside m groups (groupOf groups (moveAt m v .machine)) (v ∷ []))
-        → p < size m groups a → liveMode m groups a p ≡ true
-        → (q : ℕ) × (q < size m groups a) × (meets m groups a (moveAt m v) q ≡ true) × Connects m plan a p q
-    -- 5: no route is longer than L; the costs; the bound that the plan writes
-    pub at-most-longest : (k p q : ℕ) → k < groupCount groups → p < size m groups k → q < size m groups k → Connects m plan k p q
-        → entryAt m plan k p q .distance ≤ longest k
+
+  -- The costs, and the bound that the plan writes; `counting` gives the moves that count as naming other groups.
+  pub record CostLaws (counting : ℕ → List ℕ) (longest cost : ℕ → ℕ) : Type 0 where
     pub cost-is : (k : ℕ) → k < groupCount groups
-        → cost k ≡ longest k * (1 + sum (map cost (namedOutside m groups k (movesOf m groups k))))
+        → cost k ≡ longest k * (1 + sum (map cost (namedOutside m groups k (counting k))))
     pub bound-is : boundIn m plan ≡ sum (map cost (upTo (groupCount groups)))
+
+  -- all of them
+  pub record PlanLaws (IsUsable : ℕ → Type 0) (longest cost : ℕ → ℕ) : Type 0 where
+    pub tables : TableLaws IsUsable longest
+    pub routes : RouteLaws IsUsable
+    pub costs : CostLaws (counted m plan) longest cost
 
 -- The plan that planning writes has them.
 abbrev pub Lawful : Type 0

@@ -6,7 +6,9 @@ pub mod Meaning
 pub mod Modes
 pub mod Needs
 pub mod Planning
+pub mod Promised
 pub mod Reading
 pub mod Routes
+pub mod Shape
 pub mod Table
 pub mod Usable

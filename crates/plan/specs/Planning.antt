@@ -11,7 +11,7 @@ use Rattle.sheet.specs.Parse.{parse}
 use Rattle.plan.specs.Groups.{Grouping, groupCount, groupsOf, smallestMember}
 use Rattle.plan.specs.Modes.{size}
 use Rattle.plan.specs.Routes.{routesUpto}
-use Rattle.plan.specs.Bound.{boundOf}
+use Rattle.plan.specs.Bound.{planBound}
 use Rattle.plan.specs.Bytes.{bytesOf, planLength}
 
 module _ (m : Model) (groups : Grouping) where
@@ -31,7 +31,7 @@ module _ (m : Model) (groups : Grouping) where
 
   -- 11: the bound does not fit 16 bits
   unfoldable pub largeBound : Bool
-  largeBound = ltb 65535 (boundOf m groups (routesUpto m groups (groupCount groups)))
+  largeBound = ltb 65535 (planBound m groups (routesUpto m groups (groupCount groups)))
 
   -- 9 and 10, in this order
   unfoldable pub sizeFaults : List Fault

@@ -1,10 +1,13 @@
 // What the definitions of a plan mean, as theorems. A function here does nothing: its contract is the theorem.
 ghost use Prim.Native.Nat.{ℕ};
+ghost use mathlib.Core.List.{List};
 ghost use Rattle.sheet.specs.Model.{Model};
 ghost use Rattle.sheet.specs.Valid.{Valid};
 ghost use Rattle.plan.specs.Groups.{groupsOf};
 ghost use Rattle.plan.specs.Laws.{Lawful};
-ghost use Rattle.plan.specs.Meaning.{BoundsRight, GroupsRight, ModesRight, Planned, Replied, UsableRight};
+ghost use Rattle.plan.specs.Meaning.{GroupsRight, ModesRight};
+ghost use Rattle.plan.specs.Promised.{BoundsRight, LeftRight, Planned, Replied, SheetFirst, UsableRight};
+ghost use Rattle.plan.specs.Shape.{ShapesRight};
 
 // The groups of a sheet are its sets of mutual need, and the needed ones have lower numbers.
 pub fn groups_are_right()
@@ -29,6 +32,21 @@ pub fn bounds_are_right()
 // The replies of planning and of the plan's length: 9 to 12, the first that applies.
 pub fn replies_are_right()
     ensures { λ _. ⌜ Replied ⌝ }
+{}
+
+// A sheet that is refused is refused alike by planning and by the plan's length.
+pub fn sheet_comes_first()
+    ensures { λ _. ⌜ SheetFirst ⌝ }
+{}
+
+// What planning leaves in the lent plan buffer and scratch: the plan and zeros, or all as it was.
+pub fn buffers_are_left_right()
+    ensures { λ _. ⌜ ((sheet buffer scratch : List ℕ) → LeftRight sheet buffer scratch) ⌝ }
+{}
+
+// A plan of bytes passes the test of its shape exactly if it has it, and what is read in it stands in its records.
+pub fn shapes_are_right()
+    ensures { λ _. ⌜ ShapesRight ⌝ }
 {}
 
 // Demand 2: the plan that planning wrote is right, entry by entry, with its bound and its bytes.

@@ -47,10 +47,11 @@ module _ (m : Model) where
   abbrev pub firstMoves : ℕ → Model
   firstMoves k = withMoves m (take k (m .moves))
 
-  abbrev machineRecords : List ℕ
+  -- the records of the machines, and of the moves
+  abbrev pub machineRecords : List ℕ
   machineRecords = flatMap (λ i. recordOf 1 (machineBody m i)) (upTo (machineCount m))
 
-  abbrev moveRecords : List ℕ
+  abbrev pub moveRecords : List ℕ
   moveRecords = flatMap (λ v. recordOf 2 (moveBody (moveAt m v))) (upTo (moveCount m))
 
   module _ (ok : Valid m) where

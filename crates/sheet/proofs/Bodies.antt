@@ -1,11 +1,15 @@
--- The bodies of a sheet as they are written: their lengths, and the move that a body gives back.
+-- The bodies of a sheet as they are written: their lengths, the move that a body gives back, and the body that a move
+-- gives back.
 -- Assumes nothing.
-use Prim.Native.Nat.{ℕ, zero, suc, _+_, _*_, _<_}
-use mathlib.Core.Path.{_≡_, refl, ap, ap₂, _∙_}
+use Prim.Native.Nat.{ℕ, zero, suc, _+_, _*_, _/_, _%_, _≤_, _<_}
+use mathlib.Core.Path.{_≡_, refl, sym, ap, ap₂, _∙_}
 use mathlib.Core.List.{List, [], _∷_, _++_, flatMap}
 use native.Mathlib.Omega.{arith}
+use borrow.Author.Tests.{eqb-true, eqb-false}
+use lib.Dec.{eqb}
 use lib.ListN.{length, getD}
 use lib.Seq.{getD-append-add, ext-getD}
+use Rattle.common.proofs.Bools.{by-cases}
 use Rattle.sheet.specs.Record.{byte}
 use Rattle.sheet.specs.Model.{Guard, Move, Model, guard, noGuard, guardAt, moveOf}
 use Rattle.sheet.specs.Write.{machineBody, guardBytes, moveBody}
@@ -65,3 +69,44 @@ module _ (v : Move) where
       ap (λ (gs : List Guard).
       record { machine = v .machine; from = v .from; to = v .to; command = v .command; guards = gs })
       guards-back
+
+-- And back: what was read from a body writes that body
+
+pub machine-body-back : (body : List ℕ) → length body ≡ 2 → byte body 0 ∷ byte body 1 ∷ [] ≡ body
+machine-body-back body e = ext-getD 0 _ body (sym e) at-each
+  where
+    at-each : (i : ℕ) → i < 2 → byte (byte body 0 ∷ byte body 1 ∷ []) i ≡ byte body i
+    at-each zero h = refl
+    at-each (suc zero) h = refl
+    at-each (suc (suc i)) h = absurd (let f : ⊥ = omega arith in f)
+
+module _ (body : List ℕ) (long : 4 ≤ length body) (even : length body % 2 ≡ 0) where
+  guard-byte : (i : ℕ) → 4 + i < length body → byte (flatMap guardBytes (moveOf body .guards)) i ≡ byte body (4 + i)
+  guard-byte i h =
+      let n : ℕ = i / 2 in
+      let bytes : List ℕ = flatMap guardBytes (moveOf body .guards) in
+      let g = guard-here body n (omega arith) in
+      let r = guard-bytes (moveOf body .guards) n in
+      by-cases (eqb (i % 2) 0)
+      (λ t.
+      let e : i ≡ 2 * n = omega (arith, eqb-true (i % 2) 0 t) in
+      ap (byte bytes) e ∙ r .0 ∙ ap (λ x. x .machine) g ∙ ap (byte body) (omega arith))
+      (λ f.
+      let e : i ≡ 1 + 2 * n = omega (arith, eqb-false (i % 2) 0 f) in
+      ap (byte bytes) e ∙ r .1 ∙ ap (λ x. x .mask) g ∙ ap (byte body) (omega arith))
+
+  move-byte : (i : ℕ) → i < length body → byte (moveBody (moveOf body)) i ≡ byte body i
+  unfolding moveBody moveOf
+  move-byte zero h = refl
+  move-byte (suc zero) h = refl
+  move-byte (suc (suc zero)) h = refl
+  move-byte (suc (suc (suc zero))) h = refl
+  move-byte (suc (suc (suc (suc i)))) h =
+      let e : 4 + i ≡ suc (suc (suc (suc i))) = omega arith in
+      guard-byte i (omega arith) ∙ ap (byte body) e
+
+  pub move-body-back : moveBody (moveOf body) ≡ body
+  move-body-back =
+      let e : length (moveBody (moveOf body)) ≡ length body =
+      omega (arith, length-moveBody (moveOf body), guard-count body) in
+      ext-getD 0 _ body e (λ i h. move-byte i (omega arith))

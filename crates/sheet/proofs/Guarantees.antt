@@ -1,8 +1,9 @@
 -- What reading a sheet promises, from the laws of the parse and of the index.
 -- Assumes nothing.
-use Rattle.sheet.specs.Meaning.{AcceptedValid, ValidAccepted, RefusedListed, IndexAnswers}
+use Rattle.sheet.specs.Meaning.{AcceptedValid, AcceptedWhole, ValidAccepted, RefusedListed, IndexAnswers}
 use Rattle.sheet.proofs.Parsed.{parse-valid, parse-has-machine}
 use Rattle.sheet.proofs.Accepted.{sheet-accepted}
+use Rattle.sheet.proofs.Exact.{parse-exact}
 use Rattle.sheet.proofs.SheetBytes.{sheet-is-bytes}
 use Rattle.sheet.proofs.Place.{refusal-number, refusal-place}
 use Rattle.sheet.proofs.Answers.{machines-in, moves-in, modes-in, live-in, machine-in, from-in, to-in, command-in}
@@ -10,6 +11,9 @@ use Rattle.sheet.proofs.Answers.{guard-count-in, guard-machine-in, guar
 
 pub accepted-valid : AcceptedValid
 accepted-valid s d q = (parse-valid s q, parse-has-machine s q)
+
+pub accepted-whole : AcceptedWhole
+accepted-whole s d bytes q = parse-exact s bytes q
 
 pub valid-accepted : ValidAccepted
 valid-accepted m ok some =

@@ -6,6 +6,7 @@ pub mod BadMoves
 pub mod Bodies
 pub mod Bytes
 pub mod Counts
+pub mod Exact
 pub mod Fits
 pub mod Guarantees
 pub mod Guards

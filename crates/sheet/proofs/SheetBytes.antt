@@ -23,11 +23,11 @@ use Rattle.sheet.proofs.Bytes.{live-is-byte, mask-is-byte}
 abbrev pub isByte : ℕ → Bool
 isByte n = ltb n 256
 
-no-bytes : all isByte [] ≡ true
+pub no-bytes : all isByte [] ≡ true
 unfolding all
 no-bytes = refl
 
-one-more-byte : (n : ℕ) (ns : List ℕ) → n < 256 → all isByte ns ≡ true → all isByte (n ∷ ns) ≡ true
+pub one-more-byte : (n : ℕ) (ns : List ℕ) → n < 256 → all isByte ns ≡ true → all isByte (n ∷ ns) ≡ true
 unfolding all
 one-more-byte n ns h k = and-intro (lt-ltb n 256 h) k
 
@@ -37,12 +37,12 @@ byte-of-bytes s h i =
     (λ t. omega (arith, List·getD-eq-default s 0 {n = i} (leb-true (length s) i t)))
     (λ f. ltb-true _ _ (all-at isByte h (mem-getD s i 0 (leb-false _ _ f))))
 
-two-bytes : (n : ℕ) → all isByte (twoBytes n) ≡ true
+pub two-bytes : (n : ℕ) → all isByte (twoBytes n) ≡ true
 unfolding twoBytes
 two-bytes n =
     one-more-byte _ _ (mod-lt n (omega arith)) (one-more-byte _ _ (mod-lt (n / 256) (omega arith)) no-bytes)
 
-both-bytes : (xs ys : List ℕ) → all isByte xs ≡ true → all isByte ys ≡ true → all isByte (xs ++ ys) ≡ true
+pub both-bytes : (xs ys : List ℕ) → all isByte xs ≡ true → all isByte ys ≡ true → all isByte (xs ++ ys) ≡ true
 both-bytes xs ys h k = all-append isByte xs ys ∙ and-intro h k
 
 pub record-bytes : (kind : ℕ) (body : List ℕ) → all isByte body ≡ true → all isByte (recordOf kind body) ≡ true

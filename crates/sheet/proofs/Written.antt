@@ -1,15 +1,18 @@
 -- Numbers and records as they are written, read back from the place where they stand.
 -- (`between xs piece ys` says that a piece stands in `xs ++ piece ++ ys`.)
 -- Assumes nothing.
-use Prim.Native.Nat.{ℕ, _+_, _-_, _≤_, _<_}
-use mathlib.Core.Path.{_≡_, refl, ap}
-use mathlib.Core.List.{List, _++_}
+use Prim.Native.Nat.{ℕ, suc, _+_, _-_, _≤_, _<_}
+use mathlib.Core.Path.{_≡_, refl, sym, ap, ap₂, _∙_}
+use mathlib.Core.List.{List, [], _∷_, _++_}
+use native.Mathlib.Numerals.{add-one}
 use native.Mathlib.Omega.{arith}
 use borrow.Author.Tests.{lt-leb, le-ltb}
-use lib.ListN.{length}
+use lib.ListN.{length, take, drop}
+use lib.Seq.{drop-cons, drop-drop, take-add}
 use Rattle.common.proofs.Places.{Stands, stands-moved, stands-left, stands-right, stands-fits, stands-at, stands-taken}
 use Rattle.sheet.specs.declared.record.Record.the-variants.{Whole}
-use Rattle.sheet.specs.Record.{word, recordAt, part, twoBytes, recordOf}
+use Rattle.sheet.specs.Record.{byte, word, recordAt, part, twoBytes, recordOf}
+use Rattle.sheet.proofs.Records.{whole-at, part-length}
 
 pub length-twoBytes : (n : ℕ) → length (twoBytes n) ≡ 2
 unfolding twoBytes
@@ -61,3 +64,41 @@ module _ {s : List ℕ} {at : ℕ} (kind : ℕ) (body : List ℕ) (w : Stands s 
         le-ltb (length s - at) 4 (omega arith),
         le-ltb (length s - at - 4) (length body) (omega arith),
       )
+
+-- And back: the bytes of a file where a whole record is read are that record, written
+
+module _ (s : List ℕ) (bytes : (i : ℕ) → byte s i < 256) where
+  pub twoBytes-word : (i : ℕ) → twoBytes (word s i) ≡ byte s i ∷ byte s (i + 1) ∷ []
+  unfolding twoBytes word
+  twoBytes-word i =
+      let a = bytes i in
+      let b = bytes (i + 1) in
+      ap₂ (λ x y. x ∷ y ∷ []) (omega arith) (omega arith)
+
+  pub two-taken : (i : ℕ) → i + 2 ≤ length s → take 2 (drop i s) ≡ twoBytes (word s i)
+  two-taken i h =
+      rw (drop-cons s i 0 (omega arith), drop-cons s (suc i) 0 (omega arith)) (rw (← add-one i) (sym (twoBytes-word i)))
+
+  pub record-back : (at : ℕ) {kind len : ℕ} → recordAt s at ≡ Whole kind (at + 4) len
+      → take (4 + len) (drop at s) ≡ recordOf kind (part s (at + 4) len)
+  unfolding recordOf part
+  record-back at {kind} {len} w =
+      let h = whole-at s at w in
+      let first : take 2 (drop at s) ≡ twoBytes len =
+      two-taken at (omega (arith, h .within)) ∙ ap twoBytes (sym (h .length-word)) in
+      let second : take 2 (drop 2 (drop at s)) ≡ twoBytes kind =
+      ap (take 2) (drop-drop 2 at s) ∙ two-taken (at + 2) (omega (arith, h .within))
+      ∙ ap twoBytes (sym (h .kind-word)) in
+      take-add 4 len (drop at s)
+      ∙ ap₂ _++_
+      (take-add 2 2 (drop at s) ∙ ap₂ _++_ (first ∙ ap twoBytes (sym (part-length s (at + 4) len (h .within)))) second)
+      (ap (take len) (drop-drop 4 at s))
+
+  -- the file up to behind a record is the file up to it, and the record
+  pub record-taken : (at : ℕ) {kind start len : ℕ} → recordAt s at ≡ Whole kind start len
+      → take (start + len) s ≡ take at s ++ recordOf kind (part s start len)
+  record-taken at {kind} {start} {len} w =
+      let e = whole-at s at w .starts in
+      let v : recordAt s at ≡ Whole kind (at + 4) len = rw e at w in
+      let k : at + 4 + len ≡ at + (4 + len) = omega arith in
+      rw (e, k) (take-add at (4 + len) s ∙ ap (λ l. take at s ++ l) (record-back at v))

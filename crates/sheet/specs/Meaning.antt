@@ -15,6 +15,10 @@ use Rattle.sheet.specs.Index.{indexOf, modesIn, liveIn, moveByte, guardC
 abbrev pub AcceptedValid : Type 0
 AcceptedValid = (s : List ℕ) (d : Parsed) → parse s ≡ given d → Valid (d .model) × (0 < machineCount (d .model))
 
+-- A file of bytes that passes is exactly the sheet of its model, written out: nothing in it is passed over.
+abbrev pub AcceptedWhole : Type 0
+AcceptedWhole = (s : List ℕ) (d : Parsed) → ((i : ℕ) → byte s i < 256) → parse s ≡ given d → s ≡ sheetBytes (d .model)
+
 -- Nothing that is right is refused: the sheet of a valid model that has a machine passes, and is read as that model.
 -- That sheet is a file of bytes where the commands are bytes; the model's other numbers are.
 pub record ReadBack (m : Model) : Type 0 where

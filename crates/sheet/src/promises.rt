@@ -1,9 +1,14 @@
 // What reading a sheet promises, as theorems. A function here does nothing: its contract is the theorem.
-ghost use Rattle.sheet.specs.Meaning.{AcceptedValid, IndexAnswers, RefusedListed, ValidAccepted};
+ghost use Rattle.sheet.specs.Meaning.{AcceptedValid, AcceptedWhole, IndexAnswers, RefusedListed, ValidAccepted};
 
 // A sheet that passes 1 to 8 is valid, and has a machine.
 pub fn accepted_is_valid()
     ensures { λ _. ⌜ AcceptedValid ⌝ }
+{}
+
+// A file of bytes that passes is exactly the sheet of its model, written out: nothing in it is passed over.
+pub fn accepted_is_whole()
+    ensures { λ _. ⌜ AcceptedWhole ⌝ }
 {}
 
 // Nothing that is right is refused: the sheet of a valid model that has a machine passes, and is read as that model.

@@ -1,4 +1,4 @@
-use Rattle.command.proofs.Meanings.{goal-passes}
+use Rattle.command.proofs.TurnedDown.{goal-passes}
 use Rattle.command.proofs.promises.goals_pass.Statement.{statement}
 use Rattle.command.proofs.promises.goals_pass.Tie as tie
 

@@ -1,4 +1,4 @@
-use Rattle.command.proofs.Meanings.{state-passes}
+use Rattle.command.proofs.TurnedDown.{state-passes}
 use Rattle.command.proofs.promises.states_pass.Statement.{statement}
 use Rattle.command.proofs.promises.states_pass.Tie as tie
 

@@ -1,6 +1,6 @@
 use Rattle.plan.specs.Groups.{groupsOf}
 use Rattle.plan.proofs.Planning.{length-groupsOf}
-use Rattle.plan.proofs.Planned.{modes-right}
+use Rattle.plan.proofs.ModesRight.{modes-right}
 use Rattle.plan.proofs.promises.modes_are_right.Statement.{statement}
 use Rattle.plan.proofs.promises.modes_are_right.Tie as tie
 

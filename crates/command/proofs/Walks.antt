@@ -1,0 +1,147 @@
+-- The walk's lines are those of obeying, to the end: its turns suffice, since every run arrives.
+-- Assumes nothing.
+use Prim.Native.Nat.{ℕ, zero, suc, _+_, _≤_, _<_, zero-le}
+use mathlib.Core.Path.{_≡_, refl, sym, ap, subst, _∙_}
+use mathlib.Core.List.{List, [], _∷_, _++_}
+use mathlib.Core.Bool.{true}
+use native.Mathlib.Numerals.{add-one}
+use native.Mathlib.Omega.{arith}
+use Rattle.common.specs.Reply.{Reply, given, refused, clear, andThen}
+use Rattle.common.proofs.Bools.{by-cases, true-false}
+use Rattle.common.proofs.Reply.{unless-clear, given-clear}
+use Rattle.common.proofs.Clear.{clear-each, each-clear}
+use Rattle.sheet.specs.Parse.{Parsed, parse}
+use Rattle.plan.specs.Planning.{planReply}
+use Rattle.plan.specs.Reading.{boundIn}
+use Rattle.command.specs.Next.{Next, done, command, nextReply, goalRefusals}
+use Rattle.command.specs.Apply.{actingMove, stateBy, Applied, applyReply, stateAfter}
+use Rattle.command.specs.Run.{Lent, lend, askReply, Call, ask, apply, none, Situation, begins, pendingOf, IsPending, appliedBy}
+use Rattle.command.specs.Run.{after, afterAll, Run}
+use Rattle.command.specs.Walk.{finished, sent, stopped, obey, walkLines}
+use Rattle.command.specs.Walked.{Obeys, arrived, halted, went, WalksRight}
+use Rattle.command.proofs.Asking.{refusals-parts}
+use Rattle.command.proofs.Calls.{afterAll-append}
+use Rattle.command.proofs.Arrival.{arrival}
+
+-- One turn
+
+module _ (sheet plan goal : List ℕ) (bound n count : ℕ) (state : List ℕ) where
+  obey-done : nextReply sheet plan state goal ≡ given done
+      → obey sheet plan goal bound (suc n) count state ≡ finished count bound ∷ []
+  unfolding obey
+  obey-done e = rw (e, obey)
+
+  obey-stops : {number place : ℕ} → nextReply sheet plan state goal ≡ refused number place
+      → obey sheet plan goal bound (suc n) count state ≡ stopped number place ∷ []
+  unfolding obey
+  obey-stops e = rw (e, obey)
+
+  obey-sends : {i c : ℕ} → nextReply sheet plan state goal ≡ given (command i c)
+      → obey sheet plan goal bound (suc n) count state
+      ≡ sent i c ∷ obey sheet plan goal bound n (count + 1) (stateAfter (applyReply sheet state i c) state)
+  unfolding obey
+  obey-sends e = rw (e, obey)
+
+-- Asking and applying by turns is a run
+
+module _ (lent : Lent) where
+  run-append : (s : Situation) (before later : List Call) → Run lent s before
+      → Run lent (afterAll lent s before) later → Run lent s (before ++ later)
+  unfolding afterAll
+  run-append s [] later r l = l
+  run-append s (c ∷ before) later r l = (r .0, run-append (after lent s c) before later (r .1) l)
+
+  module _ (s : Situation) {i c : ℕ} (e : askReply lent (s .state) ≡ given (command i c)) where
+    turn-run : Run lent s (ask ∷ apply ∷ [])
+    unfolding after
+    turn-run = (tt, (subst (λ r. IsPending (pendingOf r)) (sym e) tt, tt))
+
+    turn-leaves : afterAll lent s (ask ∷ apply ∷ [])
+        ≡ record {
+          state = stateAfter (applyReply (lent .sheet) (s .state) i c) (s .state);
+          pending = none;
+          applied = suc (s .applied);
+        }
+    unfolding after afterAll
+    turn-leaves =
+        ap (λ p. appliedBy lent (record { state = s .state; pending = p; applied = s .applied }) p)
+        (ap pendingOf e)
+
+module _ (sheet plan goal : List ℕ) (d : Parsed) (parsed : parse sheet ≡ given d) where
+  -- a state in which next command gives something passes, and applying is not refused
+  passes : (state : List ℕ) {r : Next} → nextReply sheet plan state goal ≡ given r
+      → clear (goalRefusals (d .model) plan state goal) ≡ true
+  unfolding nextReply andThen
+  passes state e = each-clear _ (given-clear _ _ (rw parsed at e) .1)
+
+  applies : (state : List ℕ) {r : Next} (i c : ℕ) → nextReply sheet plan state goal ≡ given r
+      → (a : Applied) × (applyReply sheet state i c ≡ given a)
+  unfolding applyReply andThen
+  applies state i c e = (
+    record { move = actingMove (d .model) state i c; state = stateBy (d .model) state i c },
+    rw parsed (unless-clear _ _ (clear-each _ (refusals-parts (d .model) plan state goal (passes state e) .0))),
+  )
+
+  abbrev bound : ℕ
+  bound = boundIn (d .model) plan
+
+  -- obeying with n turns from a situation prints what it should
+  abbrev Right : ℕ → Situation → Type 0
+  Right n s = Obeys sheet plan goal bound (s .applied) (s .state) (obey sheet plan goal bound n (s .applied) (s .state))
+
+  step : (n : ℕ) (s : Situation) (r : Reply Next) → nextReply sheet plan (s .state) goal ≡ r
+      → ((i c : ℕ) → r ≡ given (command i c) → Right n (afterAll (lend sheet plan goal) s (ask ∷ apply ∷ [])))
+      → Right (suc n) s
+  step n s (given done) e later = rw (obey-done sheet plan goal bound n (s .applied) (s .state) e) (arrived e)
+  step n s (refused number place) e later = rw (obey-stops sheet plan goal bound n (s .applied) (s .state) e) (halted e)
+  step n s (given (command i c)) e later =
+      let a = applies (s .state) i c e in
+      let rest = subst (Right n) (turn-leaves (lend sheet plan goal) s e) (later i c refl) in
+      rw (obey-sends sheet plan goal bound n (s .applied) (s .state) e, add-one (s .applied), a .1)
+      (went (a .0) e (a .1) (rw (a .1) at rest))
+
+  -- a run gives a command only while fewer were applied than the bound, so as many turns and one suffice
+  module _ (buffer scratch : ℕ) (planned : planReply sheet buffer scratch ≡ given plan) (state : List ℕ)
+      (covered : clear (goalRefusals (d .model) plan state goal) ≡ true) where
+    abbrev now : List Call → Situation
+    now before = afterAll (lend sheet plan goal) (begins state) before
+
+    below-bound : (before : List Call) → Run (lend sheet plan goal) (begins state) before → (i c : ℕ)
+        → nextReply sheet plan (now before .state) goal ≡ given (command i c) → now before .applied < bound
+    below-bound before run i c e =
+        let asks = run-append (lend sheet plan goal) (begins state) before (ask ∷ []) run (tt, tt) in
+        arrival (lend sheet plan goal) state buffer scratch d (before ++ (ask ∷ [])) parsed planned covered asks
+        .asking before [] refl .within-bound i c e
+
+    obeys : (n : ℕ) (before : List Call) → Run (lend sheet plan goal) (begins state) before → now before .applied ≤ bound
+        → bound < now before .applied + n → Right n (now before)
+    obeys zero before run most enough = absurd (let f : ⊥ = omega arith in f)
+    obeys (suc n) before run most enough =
+        step n (now before) (nextReply sheet plan (now before .state) goal) refl (λ i c e.
+        let less = below-bound before run i c e in
+        let turn = turn-run (lend sheet plan goal) (now before) e in
+        let both = afterAll-append (lend sheet plan goal) (begins state) before (ask ∷ apply ∷ []) in
+        let count : now (before ++ (ask ∷ apply ∷ [])) .applied ≡ suc (now before .applied)
+        = ap (λ s. s .applied) (both ∙ turn-leaves (lend sheet plan goal) (now before) e) in
+        subst (Right n) both
+        (obeys n (before ++ (ask ∷ apply ∷ []))
+        (run-append (lend sheet plan goal) (begins state) before (ask ∷ apply ∷ []) run turn)
+        (omega arith) (omega arith)))
+
+  walks : (buffer scratch : ℕ) → planReply sheet buffer scratch ≡ given plan → (state : List ℕ)
+      → Right (suc bound) (begins state)
+  unfolding afterAll
+  walks buffer scratch planned state =
+      by-cases (clear (goalRefusals (d .model) plan state goal))
+      (λ t. obeys buffer scratch planned state t (suc bound) [] tt zero-le (omega arith))
+      (λ f. step bound (begins state) (nextReply sheet plan state goal) refl (λ i c e.
+      absurd (true-false (passes state e) f)))
+
+pub walks-right : WalksRight
+unfolding walkLines andThen
+walks-right sheet state goal =
+    record {
+      unmeasured = λ n p e. rw e;
+      unplanned = λ n p k e q. rw (e, q);
+      obeyed = λ k plan d e q parsed. rw (e, q, parsed) (walks sheet plan goal d parsed k 4096 q state);
+    }
