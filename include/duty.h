@@ -26,6 +26,9 @@ static inline uint32_t duty_value(uint64_t reply) { return (uint32_t)reply; }
 /* Checks a sheet (refusals 1 to 8). Value: 256 * moves + machines. */
 uint64_t duty_sheet(const uint8_t *sheet, size_t n);
 
+/* How long the plan of a sheet is (refusals 1 to 10). Value: bytes of the plan. */
+uint64_t duty_plan_length(const uint8_t *sheet, size_t n);
+
 #ifdef __cplusplus
 }
 #endif

@@ -78,7 +78,7 @@ pub const CALLS: [Call; 5] = [
     Call {
         name: "plan_length",
         rust: |lent| plan_length(lent.sheet.get()).map(|length| length as u32),
-        library: None,
+        library: Some(|lent| library::plan_length(lent.sheet.get())),
     },
     Call {
         name: "plan",

@@ -4,6 +4,7 @@ use crate::{refuse, Reply};
 
 extern "C" {
     fn duty_sheet(sheet: *const u8, n: usize) -> u64;
+    fn duty_plan_length(sheet: *const u8, n: usize) -> u64;
 }
 
 /// Splits a reply word: the refusal's number above, its place or the value below.
@@ -17,4 +18,9 @@ fn split(word: u64) -> Reply<u32> {
 /// Checks a sheet; the value is 256 × moves + machines.
 pub fn sheet(sheet: &[u8]) -> Reply<u32> {
     split(unsafe { duty_sheet(sheet.as_ptr(), sheet.len()) })
+}
+
+/// The length of a sheet's plan; the value is its bytes.
+pub fn plan_length(sheet: &[u8]) -> Reply<u32> {
+    split(unsafe { duty_plan_length(sheet.as_ptr(), sheet.len()) })
 }

@@ -188,6 +188,27 @@ fn the_library_refuses_recorded_sheets_as_recorded() {
 }
 
 #[test]
+fn the_library_tells_the_recorded_lengths() {
+    let Some(folder) = folder() else { return };
+    let text = fs::read_to_string(folder.join("calls.txt")).expect("calls.txt");
+    let (blobs, calls) = recorded(&text);
+    let mut lengths = 0;
+    for (call, expected) in &calls {
+        if let ["len", sheet] = fields(call)[..] {
+            let reply = library::plan_length(blobs.get(sheet));
+            assert_eq!(
+                &said(reply, |length| length.to_string()),
+                expected,
+                "{call}"
+            );
+            lengths += 1;
+        }
+    }
+    assert!(lengths > 0, "calls.txt asks for no length");
+    say(format!("{lengths} recorded lengths agree with the library"));
+}
+
+#[test]
 fn recorded_walks_print_the_recorded_text() {
     let Some(folder) = folder() else { return };
     let mut count = 0;

@@ -1,6 +1,7 @@
 pub mod Bits
 pub mod Bools
 pub mod Clear
+pub mod Filling
 pub mod Graph
 pub mod Guarantees
 pub mod Least

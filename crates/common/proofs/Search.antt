@@ -9,7 +9,7 @@ use native.Mathlib.Omega.{arith}
 use lib.ListN.{length, getD, List·getD-eq-default}
 use Rattle.common.specs.Lists.{upTo, any, filter, position, find}
 use Rattle.common.proofs.Bools.{by-cases, true-false, false-of-not-true, or-false-left, or-false-right}
-use Rattle.common.proofs.Lists.{any-some, any-intro}
+use Rattle.common.proofs.Lists.{any-intro, any-some, any-fails}
 use Rattle.common.proofs.Members.{mem-getD, mem-index, upTo-mem, upTo-below, length-upTo, getD-upTo}
 
 -- The place of the first that, and the first that
@@ -92,6 +92,11 @@ unfolding position
 position-cong p q [] h = refl
 position-cong p q (x ∷ xs) h = rw (h x (head refl), position-cong p q xs (λ y m. h y (tail m)))
 
+pub find-cong : {A : Type 0} (p q : A → Bool) (xs : List A) (d : A) → ((x : A) → List·Memᴰ x xs → p x ≡ q x)
+    → find p xs d ≡ find q xs d
+find-cong p q xs d h =
+    find-first p xs d ∙ ap (λ k. getD xs k d) (position-cong p q xs h) ∙ sym (find-first q xs d)
+
 -- the first number that is at most any that
 pub find-upTo-least : (p : ℕ → Bool) {n : ℕ} (d i : ℕ) → i < n → p i ≡ true → find p (upTo n) d ≤ i
 find-upTo-least p {n} d i h t =
@@ -112,13 +117,17 @@ module _ (p : ℕ → Bool) (n d : ℕ) (some : any p (upTo n) ≡ true) where
       let b : j < n = omega arith in
       ap p (sym (getD-upTo d b)) ∙ position-before p (upTo n) j d (omega arith)
 
--- a number below n that, and none before it
-pub find-upTo-is : (p : ℕ → Bool) {n : ℕ} (d i : ℕ) → i < n → p i ≡ true → ((j : ℕ) → j < i → p j ≡ false)
-    → find p (upTo n) d ≡ i
-find-upTo-is p {n} d i h t before =
-    let some = any-intro p (upTo-mem h) t in
-    let k : ¬ (find p (upTo n) d < i) = λ l. true-false (find-holds p (upTo n) d some) (before _ l) in
-    omega (arith, find-upTo-least p d i h t)
+-- the first number below n that is the one with none before it
+
+module _ (p : ℕ → Bool) {n : ℕ} (d : ℕ) where
+  pub find-upTo-is : (i : ℕ) → i < n → p i ≡ true → ((j : ℕ) → j < i → p j ≡ false) → find p (upTo n) d ≡ i
+  find-upTo-is i h t before =
+      let some = any-intro p (upTo-mem h) t in
+      let k : ¬ (find p (upTo n) d < i) = λ l. true-false (find-holds p (upTo n) d some) (before _ l) in
+      omega (arith, find-upTo-least p d i h t)
+
+  pub find-upTo-none : ((j : ℕ) → j < n → p j ≡ false) → find p (upTo n) d ≡ d
+  find-upTo-none h = find-none p (upTo n) d (any-fails p (upTo n) (λ j m. h j (upTo-below n m)))
 
 -- the first of those that
 pub find-filter : {A : Type 0} (p q : A → Bool) (xs : List A) (d : A)

@@ -1,4 +1,4 @@
--- What the reply of reading a sheet says, as a word.
+-- What the replies of reading a sheet and of the plan's length say, as words.
 -- Assumes nothing.
 use Prim.Native.Nat.{ℕ, _+_, _*_, _≤_}
 use mathlib.Core.Path.{_≡_, refl, sym, ap, subst, _∙_}
@@ -8,13 +8,20 @@ use Rattle.common.specs.Reply.{Reply, given, refused}
 use Rattle.sheet.specs.declared.index.Sheet.{Sheet}
 use Rattle.sheet.specs.declared.index.Reading.{Reading}
 use Rattle.sheet.specs.declared.refusal.Cause.{Cause}
-use Rattle.sheet.specs.declared.refusal.Verdict.the-variants.{Accepted, Refused}
+use Rattle.sheet.specs.declared.refusal.Verdict.the-variants.{Accepted, Refused as Turned}
 use Rattle.sheet.specs.Refusal.{numberOf}
+use Rattle.sheet.specs.Model.{machineCount, moveCount}
 use Rattle.sheet.specs.Parse.{Parsed, nothing, parse}
-use Rattle.sheet.specs.Index.{indexOf, verdictOf, readingOf, indexReply, sheetOf}
+use Rattle.sheet.specs.Index.{readingOf, indexReply, sheetOf}
 use Rattle.sheet.proofs.Answers.{machines-in, moves-in}
+use Rattle.sheet.proofs.Indexed.{indexes-machines, indexes-moves, accepted-indexed, refused-parse}
 use Rattle.sheet.proofs.Parsed.{parse-valid}
 use Rattle.sheet.proofs.Place.{refusal-near}
+use Rattle.plan.specs.declared.measure.Length.{Length}
+use Rattle.plan.specs.declared.measure.Length.the-variants.{Bytes, Refused}
+use Rattle.plan.specs.Planning.{lengthReply}
+use Rattle.plan.specs.Measured.{measuredOf}
+use Rattle.plan.proofs.SheetLength.{length-near}
 use Rattle.panel.specs.Words.{wordOf, sheetReply}
 
 -- the counts of an index are small
@@ -34,36 +41,31 @@ few-counts s x e = subst Few (sym e) (go (parse s) refl)
 module _ (s : List ℕ) (r : Reading) (e : readingOf r ≡ indexReply (parse s)) where
   -- an accepted sheet's word holds its counts
   pub accepted-word : r .verdict ≡ Accepted → 256 * r .sheet .moves + r .sheet .machines ≡ wordOf (sheetReply (parse s))
-  accepted-word a = go (parse s) (ap (λ v. verdictOf v (given (r .sheet))) (sym a) ∙ e)
-    where
-      go : (p : Reply Parsed) → given (r .sheet) ≡ indexReply p
-          → 256 * r .sheet .moves + r .sheet .machines ≡ wordOf (sheetReply p)
-      go (given d) q =
-          let x : r .sheet ≡ indexOf d = cc in
-          rw x (omega (arith, machines-in d, moves-in d))
-      go (refused number place) q = let z : _≡_ {A = ℕ} 0 1 = cc in omega arith
+  accepted-word a =
+      let i = accepted-indexed s r e a .1 in
+      let n = indexes-machines i ∙ ap machineCount (i .model) in
+      let v = indexes-moves i ∙ ap moveCount (i .model) in
+      rw (i .passes) (omega arith)
 
   -- a refused sheet's word holds the number and the place
-  module _ (cause : Cause) (place : ℕ) (a : r .verdict ≡ Refused cause place) where
-    told : refused (numberOf cause) place ≡ indexReply (parse s)
-    told = ap (λ v. verdictOf v (given (r .sheet))) (sym a) ∙ e
-
+  module _ (cause : Cause) (place : ℕ) (a : r .verdict ≡ Turned cause place) where
     pub refused-word : 4294967296 * numberOf cause + place ≡ wordOf (sheetReply (parse s))
-    refused-word = go (parse s) told
-      where
-        go : (p : Reply Parsed) → refused (numberOf cause) place ≡ indexReply p
-            → 4294967296 * numberOf cause + place ≡ wordOf (sheetReply p)
-        go (given d) q = let z : _≡_ {A = ℕ} 0 1 = cc in omega arith
-        go (refused n p) q =
-            let x : numberOf cause ≡ n = cc in
-            let y : place ≡ p = cc in
-            omega arith
+    refused-word = rw (refused-parse s r e a)
 
     pub refused-near : place ≤ 6196
-    refused-near = go (parse s) refl told
-      where
-        go : (p : Reply Parsed) → parse s ≡ p → refused (numberOf cause) place ≡ indexReply p → place ≤ 6196
-        go (given d) w q = let z : _≡_ {A = ℕ} 0 1 = cc in omega arith
-        go (refused n p) w q =
-            let y : place ≡ p = cc in
-            omega (arith, refusal-near s w)
+    refused-near = refusal-near s (refused-parse s r e a)
+
+module _ (s : List ℕ) (r : Length) (e : measuredOf r ≡ lengthReply s) where
+  -- the word of a length is the length
+  pub length-word : {bytes : ℕ} → r ≡ Bytes bytes → bytes ≡ wordOf (lengthReply s)
+  length-word a = ap wordOf (ap measuredOf (sym a) ∙ e)
+
+  module _ (cause : Cause) (place : ℕ) (a : r ≡ Refused cause place) where
+    told : refused (numberOf cause) place ≡ lengthReply s
+    told = ap measuredOf (sym a) ∙ e
+
+    pub unmeasured-word : 4294967296 * numberOf cause + place ≡ wordOf (lengthReply s)
+    unmeasured-word = ap wordOf told
+
+    pub unmeasured-near : place ≤ 6196
+    unmeasured-near = length-near s (sym told)

@@ -1,10 +1,12 @@
 // The C interface: exported functions that put replies into 64 bits. Nothing is decided here.
+use plan::measure::Length;
 use sheet::refusal::Cause;
 use sheet::refusal::Verdict;
 ghost use mathlib.Core.Path.{_≡_};
 ghost use Prim.Native.Nat.{_+_, _*_, _≤_};
 ghost use Rattle.sheet.specs.Refusal.{numberOf};
 ghost use Rattle.sheet.specs.Parse.{parse};
+ghost use Rattle.plan.specs.Planning.{lengthReply};
 ghost use Rattle.panel.specs.Words.{wordOf, sheetReply};
 
 // The word of a refusal.
@@ -26,4 +28,16 @@ pub extern "C" fn duty_sheet(file: &[u8]) -> u64
         return 256 * (reading.sheet.moves as u64) + reading.sheet.machines as u64;
     };
     refusal(cause, place)
+}
+
+// The length of the plan of a sheet, in bytes, or the refusal.
+#[no_mangle]
+pub extern "C" fn duty_plan_length(file: &[u8]) -> u64
+    ensures { λ r. ⌜ r ≡ wordOf (lengthReply (now (file .entry))) ⌝ }
+{
+    let length = plan::measure::plan_length(file);
+    match length {
+        Length::Bytes(bytes) => bytes as u64,
+        Length::Refused(cause, place) => refusal(cause, place),
+    }
 }

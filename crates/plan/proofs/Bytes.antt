@@ -1,24 +1,22 @@
 -- Four bytes, and a record of a plan: seen where it stands, and standing where it is seen. (Two bytes and records as
 -- such are the sheet's, `Written`.)
 -- Assumes nothing.
-use Prim.Native.Nat.{ℕ, _+_, _*_, _/_, _≤_, _<_}
-use mathlib.Core.Path.{_≡_, refl, sym, ap, ap₂, _∙_}
-use mathlib.Core.List.{List, [], _∷_, _++_}
+use Prim.Native.Nat.{ℕ, _+_, _*_, _<_}
+use mathlib.Core.Path.{_≡_, refl, sym, ap₂, _∙_}
+use mathlib.Core.List.{List, _++_}
 use mathlib.Core.Bool.{true}
-use native.Mathlib.Nat.{mod-eq-of-lt}
-use native.Mathlib.Numerals.{add-one}
 use native.Mathlib.Omega.{arith}
 use borrow.Author.Tests.{eqb-true, eq-eqb}
 use lib.Dec.{eqb}
-use lib.ListN.{length, take, drop, take-append-drop}
-use lib.Seq.{drop-cons, drop-drop}
+use lib.ListN.{length, drop, take-append-drop}
+use lib.Seq.{drop-drop}
 use Rattle.common.proofs.Bools.{true-false, and-intro, and-left, and-right}
 use Rattle.common.proofs.Places.{Stands}
 use Rattle.sheet.specs.declared.record.Record.{Record}
 use Rattle.sheet.specs.declared.record.Record.the-variants.{Whole, Cut}
-use Rattle.sheet.specs.Record.{byte, word, recordAt, part, twoBytes, recordOf}
-use Rattle.sheet.proofs.Records.{WholeAt, whole-at, part-length}
-use Rattle.sheet.proofs.Written.{record-read}
+use Rattle.sheet.specs.Record.{byte, recordAt, part, twoBytes, recordOf}
+use Rattle.sheet.proofs.Records.{WholeAt, whole-at, whole-here}
+use Rattle.sheet.proofs.Written.{record-read, record-back}
 use Rattle.plan.specs.Bytes.{fourBytes}
 use Rattle.plan.specs.Reading.{isWhole, hasRecord}
 
@@ -61,34 +59,12 @@ module _ {s : List ℕ} {at : ℕ} where
 
 -- In a file of bytes a record that is seen stands there
 
-module _ (s : List ℕ) (bytes : (i : ℕ) → byte s i < 256) where
-  twoBytes-word : (i : ℕ) → twoBytes (word s i) ≡ byte s i ∷ byte s (i + 1) ∷ []
-  unfolding twoBytes word
-  twoBytes-word i =
-      let n : ℕ = byte s i + 256 * byte s (i + 1) in
-      let high : n / 256 ≡ byte s (i + 1) = omega (arith, bytes i) in
-      ap₂ (λ a b. a ∷ b ∷ []) (omega (arith, bytes i)) (rw high (mod-eq-of-lt (bytes (i + 1))))
-
-  next-byte : (i j : ℕ) → j ≡ i + 1 → i < length s → drop i s ≡ byte s i ∷ drop j s
-  next-byte i j e h = rw (e, add-one, drop-cons s i 0)
-
-  -- the four bytes before a body
-  four-bytes : (at : ℕ) → at + 4 ≤ length s
-      → drop at s ≡ byte s at ∷ byte s (at + 1) ∷ byte s (at + 2) ∷ byte s (at + 2 + 1) ∷ drop (at + 4) s
-  four-bytes at h =
-      next-byte at (at + 1) refl (omega arith)
-      ∙ ap (λ l. byte s at ∷ l) (next-byte (at + 1) (at + 2) (omega arith) (omega arith)
-      ∙ ap (λ l. byte s (at + 1) ∷ l) (next-byte (at + 2) (at + 2 + 1) refl (omega arith)
-      ∙ ap (λ l. byte s (at + 2) ∷ l) (next-byte (at + 2 + 1) (at + 4) (omega arith) (omega arith))))
-
-  pub record-rebuilt : (at kind n next : ℕ) → hasRecord s at kind n ≡ true → next ≡ at + 4 + n
-      → drop at s ≡ recordOf kind (part s (at + 4) n) ++ drop next s
-  unfolding recordOf part
-  record-rebuilt at kind n next h e =
-      let w = shown-whole kind n h in
-      let body : List ℕ = take n (drop (at + 4) s) in
-      let long : length body ≡ word s at = part-length s (at + 4) n (w .within) ∙ w .length-word in
-      four-bytes at (omega (arith, w .within))
-      ∙ rw (long, w .kind-word, twoBytes-word at, twoBytes-word (at + 2), e)
-      (ap (λ l. byte s at ∷ byte s (at + 1) ∷ byte s (at + 2) ∷ byte s (at + 2 + 1) ∷ l)
-      (sym (take-append-drop n (drop (at + 4) s)) ∙ ap (λ l. body ++ l) (drop-drop n (at + 4) s)))
+pub record-rebuilt : (s : List ℕ) → ((i : ℕ) → byte s i < 256) → (at kind n next : ℕ) → hasRecord s at kind n ≡ true
+    → next ≡ at + 4 + n → drop at s ≡ recordOf kind (part s (at + 4) n) ++ drop next s
+record-rebuilt s bytes at kind n next h e =
+    let w = shown-whole kind n h in
+    let here : recordAt s at ≡ Whole kind (at + 4) n
+    = whole-here s at (omega (arith, w .within, w .length-word)) ∙ rw (← w .kind-word, ← w .length-word) in
+    let behind : at + (4 + n) ≡ next = omega arith in
+    sym (take-append-drop (4 + n) (drop at s))
+    ∙ ap₂ _++_ (record-back s bytes at here) (drop-drop (4 + n) at s ∙ rw behind)

@@ -93,6 +93,11 @@ module _ (m : Model) where
   pub groups-of-any : GroupsRight m (groupsOf m)
   groups-of-any = rw groups-rounds rounds-right
 
+  -- every number is below the machine count
+  pub group-below-machines : (i : ℕ) → i < machineCount m → groupOf (groupsOf m) i < machineCount m
+  group-below-machines i h =
+      rw groups-rounds (omega (arith, length-needGraph m, number-given own closed i (node h)))
+
   pub groups-right : Valid m → GroupsRight m (groupsOf m)
   groups-right valid = groups-of-any
 

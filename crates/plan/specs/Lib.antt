@@ -2,7 +2,9 @@ pub mod Bound
 pub mod Bytes
 pub mod Groups
 pub mod Laws
+pub mod MachineSets
 pub mod Meaning
+pub mod Measured
 pub mod Modes
 pub mod Needs
 pub mod Planning
@@ -10,5 +12,6 @@ pub mod Promised
 pub mod Reading
 pub mod Routes
 pub mod Shape
+pub mod Sizes
 pub mod Table
 pub mod Usable

@@ -1,2 +1,5 @@
 // The plan: groups of machines, routes within them, the bound, and the plan's bytes.
+pub mod grouping;
+pub mod measure;
 pub mod promises;
+pub mod sizing;

@@ -10,6 +10,7 @@ pub mod Exact
 pub mod Fits
 pub mod Guarantees
 pub mod Guards
+pub mod Indexed
 pub mod Judging
 pub mod Keys
 pub mod Modes

@@ -31,6 +31,7 @@ use Rattle.sheet.proofs.Valid.{valid-empty, valid-turn, machine-or-move
 -- a move stands in a file: its body begins at a place, and the body length is the word four bytes before
 pub record Stands (s : List ℕ) (start : ℕ) (v : Move) : Type 0 where
   pub len : ℕ
+  pub behind : 4 ≤ start
   pub length-word : len ≡ word s (start - 4)
   pub within : start + len ≤ length s
   pub long : 4 ≤ len
@@ -84,6 +85,7 @@ move-stands s at {kind} {start} {len} w m c =
     let e = part-length s start len (h .within) in
     record {
       len = len;
+      behind = omega arith;
       length-word = h .length-word ∙ ap (word s) (omega arith);
       within = h .within;
       long = omega arith;

@@ -5,7 +5,7 @@ use mathlib.Core.Path.{_≡_, sym, ap, _∙_}
 use mathlib.Core.List.{List, []}
 use native.Mathlib.Nat.{add-sub-cancel-left}
 use native.Mathlib.Omega.{arith}
-use borrow.Author.Tests.{ltb-false, leb-false, lt-ltb}
+use borrow.Author.Tests.{ltb-false, leb-false, lt-ltb, le-ltb, lt-leb}
 use lib.Dec.{ltb, leb}
 use lib.ListN.{length, take, drop, length-take, length-drop, List·getD-eq-default}
 use lib.Seq.{getD-take, getD-drop}
@@ -69,6 +69,17 @@ module _ (s : List ℕ) (at : ℕ) {r : Record} (e : r ≡ recordAt s at) where
   pub body-none : r ≡ Cut → [] ≡ bodyAt s at
   unfolding bodyAt
   body-none q = sym (ap (bodyOf s) (sym e ∙ q))
+
+-- a record that its file holds is whole
+pub whole-here : (s : List ℕ) (at : ℕ) → at + 4 + word s at ≤ length s
+    → recordAt s at ≡ Whole (word s (at + 2)) (at + 4) (word s at)
+unfolding recordAt
+whole-here s at h =
+    rw (
+      lt-leb (length s) at (omega arith),
+      le-ltb (length s - at) 4 (omega arith),
+      le-ltb (length s - at - 4) (word s at) (omega arith),
+    )
 
 -- a record that its file does not hold whole is cut short, whatever its kind
 pub cut-short : (s : List ℕ) (at : ℕ) → length s < at + 4 + word s at → recordAt s at ≡ Cut

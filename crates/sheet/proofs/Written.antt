@@ -1,18 +1,17 @@
 -- Numbers and records as they are written, read back from the place where they stand.
 -- (`between xs piece ys` says that a piece stands in `xs ++ piece ++ ys`.)
 -- Assumes nothing.
-use Prim.Native.Nat.{ℕ, suc, _+_, _-_, _≤_, _<_}
+use Prim.Native.Nat.{ℕ, suc, _+_, _≤_, _<_}
 use mathlib.Core.Path.{_≡_, refl, sym, ap, ap₂, _∙_}
 use mathlib.Core.List.{List, [], _∷_, _++_}
 use native.Mathlib.Numerals.{add-one}
 use native.Mathlib.Omega.{arith}
-use borrow.Author.Tests.{lt-leb, le-ltb}
 use lib.ListN.{length, take, drop}
 use lib.Seq.{drop-cons, drop-drop, take-add}
 use Rattle.common.proofs.Places.{Stands, stands-moved, stands-left, stands-right, stands-fits, stands-at, stands-taken}
 use Rattle.sheet.specs.declared.record.Record.the-variants.{Whole}
 use Rattle.sheet.specs.Record.{byte, word, recordAt, part, twoBytes, recordOf}
-use Rattle.sheet.proofs.Records.{whole-at, part-length}
+use Rattle.sheet.proofs.Records.{whole-here, whole-at, part-length}
 
 pub length-twoBytes : (n : ℕ) → length (twoBytes n) ≡ 2
 unfolding twoBytes
@@ -54,16 +53,10 @@ module _ {s : List ℕ} {at : ℕ} (kind : ℕ) (body : List ℕ) (w : Stands s 
   body-read = stands-taken stands-body
 
   pub record-read : length body < 65536 → kind < 65536 → recordAt s at ≡ Whole kind (at + 4) (length body)
-  unfolding recordAt
   record-read h k =
+      let len = word-twoBytes (length body) stands-length h in
       let fits : at + 4 + length body ≤ length s = omega (arith, stands-fits w, length-recordOf kind body) in
-      rw (
-        word-twoBytes (length body) stands-length h,
-        word-twoBytes kind stands-kind k,
-        lt-leb (length s) at (omega arith),
-        le-ltb (length s - at) 4 (omega arith),
-        le-ltb (length s - at - 4) (length body) (omega arith),
-      )
+      whole-here s at (rw len fits) ∙ rw (len, word-twoBytes kind stands-kind k)
 
 -- And back: the bytes of a file where a whole record is read are that record, written
 

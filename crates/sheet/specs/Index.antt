@@ -1,5 +1,6 @@
 -- The index of a sheet that was read: what the code keeps of it, and its answers.
 use Prim.Native.Nat.{ℕ, _+_, _-_, _/_}
+use mathlib.Core.Path.{_≡_}
 use mathlib.Core.List.{List}
 use lib.ListN.{getD}
 use Rattle.common.specs.Lists.{pad}
@@ -10,8 +11,8 @@ use Rattle.sheet.specs.declared.refusal.Verdict.{Verdict}
 use Rattle.sheet.specs.declared.refusal.Verdict.the-variants.{Accepted, Refused}
 use Rattle.sheet.specs.Refusal.{numberOf}
 use Rattle.sheet.specs.Record.{byte, word}
-use Rattle.sheet.specs.Model.{machineCount, moveCount}
-use Rattle.sheet.specs.Parse.{Parsed, nothing}
+use Rattle.sheet.specs.Model.{Model, machineCount, moveCount}
+use Rattle.sheet.specs.Parse.{Parsed, nothing, parse}
 
 -- counts, and arrays with zeros behind what there is
 unfoldable pub indexOf : Parsed → Sheet
@@ -57,3 +58,13 @@ moveByte s x v n = byte s (getD (x .bodies) v 0 + n)
 -- the number of needs of move v, from the body length four bytes before its body
 unfoldable pub guardCountIn : List ℕ → Sheet → ℕ → ℕ
 guardCountIn s x v = (word s (getD (x .bodies) v 0 - 4) - 4) / 2
+
+-- x is the index of the file s, a sheet that passes, and m is what it says
+pub record Indexes (s : List ℕ) (x : Sheet) (m : Model) : Type 0 where
+  pub parsed : Parsed
+  pub passes : parse s ≡ given parsed
+  pub index : x ≡ indexOf parsed
+  pub model : m ≡ parsed .model
+
+abbrev pub Indexed : List ℕ → Sheet → Type 0
+Indexed s x = (m : Model) × Indexes s x m

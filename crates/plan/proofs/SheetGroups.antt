@@ -1,0 +1,41 @@
+-- The steps of `groups` together: from the index of a sheet to the sheet's own grouping.
+-- Assumes nothing.
+use Prim.Native.Nat.{ℕ, _≤_}
+use mathlib.Core.Path.{_≡_, sym, _∙_}
+use mathlib.Core.List.{List}
+use native.Mathlib.Omega.{arith}
+use lib.ListN.{take}
+use Rattle.common.specs.Graph.{distances}
+use Rattle.search.specs.Search.{Holds}
+use Rattle.sheet.specs.declared.index.Sheet.{Sheet}
+use Rattle.sheet.specs.Model.{Model, machineCount}
+use Rattle.sheet.specs.Index.{Indexed, Indexes}
+use Rattle.sheet.proofs.Indexed.{indexes-valid, indexes-machines}
+use Rattle.plan.specs.Needs.{needGraph}
+use Rattle.plan.specs.Groups.{numberedUpto, groupsOf}
+use Rattle.plan.specs.MachineSets.{ReachSets, MutualSets, OutsideSets, Grouped}
+use Rattle.plan.proofs.Needs.{length-needGraph}
+use Rattle.plan.proofs.GroupSets.{mutual-together}
+
+pub machines-fit : {s : List ℕ} {x : Sheet} → Indexed s x → x .machines ≤ 64
+machines-fit (m, i) = omega (arith, indexes-machines i, indexes-valid i .few-machines)
+
+module _ {s : List ℕ} {x : Sheet} {m : Model} (i : Indexes s x m) where
+  pub groups-kept : {next reach groups outside : List ℕ} → Holds (needGraph m) next → ReachSets next (x .machines) reach
+      → MutualSets reach (x .machines) groups → OutsideSets next groups (x .machines) outside
+      → Grouped (needGraph m) (x .machines) groups outside
+  groups-kept {next} k reached both needs =
+      let size = length-needGraph m ∙ sym (indexes-machines i) in
+      record {
+        size = size;
+        next = next;
+        holds = k;
+        group = mutual-together (needGraph m) size k reached both;
+        needs = needs;
+      }
+
+  pub groups-taken : (r : List ℕ)
+      → take (x .machines) r ≡ numberedUpto (needGraph m) (distances (needGraph m)) (x .machines)
+      → take (machineCount m) r ≡ groupsOf m
+  unfolding groupsOf
+  groups-taken r e = rw (← indexes-machines i) e

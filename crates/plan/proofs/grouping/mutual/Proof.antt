@@ -1,0 +1,70 @@
+use Prim.Native.Nat.{_<_}
+use native.Mathlib.Omega.{arith}
+use lib.ListN.{length}
+use Rattle.sets.specs.Sets.{members}
+use Rattle.sets.proofs.Members.{taken-below, taken-shorter}
+use Rattle.plan.proofs.SetLoops.{Meets, meets-none, meets-next, meets-end}
+use borrow.Author.Needs.{needs}
+use Rattle.plan.proofs.grouping.mutual.Statement.{statement}
+use Rattle.plan.proofs.grouping.mutual.Tie as tie
+
+abbrev Inv-loop : tie.InvT-loop
+Inv-loop reach i r₀ rest₀ r rest = Meets reach i r rest
+
+abbrev μ-loop : tie.MeasureT-loop
+μ-loop reach i r₀ rest₀ r rest = length (members rest)
+
+mul-rest : tie.Need-mul-rest Inv-loop μ-loop
+mul-rest c = search needs
+
+shared-slice-read-rest : tie.Need-shared-slice-read-rest Inv-loop μ-loop
+shared-slice-read-rest c = search needs
+
+loop-holds : tie.Need-loop-holds Inv-loop μ-loop
+loop-holds c = meets-none _ _ (c .shared-slice-known2 .given (c .before .before .args .i) .fits)
+
+lowest-requires : tie.Need-lowest-requires Inv-loop μ-loop
+lowest-requires c κs = search needs
+
+mul-has : tie.Need-mul-has Inv-loop μ-loop
+mul-has c = let l : c .lowest .result < 64 = search taken-below in omega arith
+
+shared-slice-read-has : tie.Need-shared-slice-read-has Inv-loop μ-loop
+shared-slice-read-has c = let l : c .before .lowest .result < 64 = search taken-below in omega arith
+
+has-requires : tie.Need-has-requires Inv-loop μ-loop
+has-requires c κs = search needs
+
+put-if-requires : tie.Need-put-if-requires Inv-loop μ-loop
+put-if-requires c κs = search taken-below
+
+without-requires : tie.Need-without-requires Inv-loop μ-loop
+without-requires c κs = search taken-below
+
+loop-less : tie.Need-loop-less Inv-loop μ-loop
+loop-less c = search taken-shorter
+
+loop-again : tie.Need-loop-again Inv-loop μ-loop
+loop-again c = search meets-next
+
+returns : tie.Need-returns Inv-loop μ-loop
+returns c = search meets-end
+
+pub mutual-spec : {M : Type 1} → statement M
+mutual-spec =
+    tie.close
+    (tie.spec
+    Inv-loop
+    μ-loop
+    mul-rest
+    shared-slice-read-rest
+    loop-holds
+    lowest-requires
+    mul-has
+    shared-slice-read-has
+    has-requires
+    put-if-requires
+    without-requires
+    loop-less
+    loop-again
+    returns)

@@ -1,0 +1,52 @@
+use Prim.Native.Nat.{_-_}
+use mathlib.Core.Path.{refl}
+use Rattle.common.proofs.Filling.{Filled, filled-none, filled-next, filled-end}
+use Rattle.plan.specs.MachineSets.{Mutual}
+use borrow.Author.Needs.{needs}
+use Rattle.plan.proofs.grouping.together.Statement.{statement}
+use Rattle.plan.proofs.grouping.together.Tie as tie
+
+abbrev Inv-loop : tie.InvT-loop
+Inv-loop reach n r₀ i₀ r i = Filled (Mutual reach) n i r
+
+abbrev μ-loop : tie.MeasureT-loop
+μ-loop reach n r₀ i₀ r i = n - i
+
+loop-holds : tie.Need-loop-holds Inv-loop μ-loop
+loop-holds c = filled-none _ refl
+
+mutual-requires : tie.Need-mutual-requires Inv-loop μ-loop
+mutual-requires c κs = search needs
+
+mul-r : tie.Need-mul-r Inv-loop μ-loop
+mul-r c = search needs
+
+array-write-r : tie.Need-array-write-r Inv-loop μ-loop
+array-write-r c = search needs
+
+add-i : tie.Need-add-i Inv-loop μ-loop
+add-i c = search needs
+
+loop-less : tie.Need-loop-less Inv-loop μ-loop
+loop-less c = search needs
+
+loop-again : tie.Need-loop-again Inv-loop μ-loop
+loop-again c = search filled-next
+
+returns : tie.Need-returns Inv-loop μ-loop
+returns c = record { each = filled-end _ (c .before .loop .inv) (c .loop-test .left) }
+
+pub together-spec : {M : Type 1} → statement M
+together-spec =
+    tie.close
+    (tie.spec
+    Inv-loop
+    μ-loop
+    loop-holds
+    mutual-requires
+    mul-r
+    array-write-r
+    add-i
+    loop-less
+    loop-again
+    returns)

@@ -1,0 +1,159 @@
+// The groups of a sheet: sets of machines that need one another, numbered so that needs come first.
+use sheet::index::Sheet;
+use sheet::record::body;
+use sheet::record::wide;
+ghost use mathlib.Core.Path.{_≡_};
+ghost use Prim.Native.Nat.{_<_, _≤_};
+ghost use lib.ListN.{length, take};
+ghost use Rattle.sheet.specs.Model.{Model, machineCount, moveOf};
+ghost use Rattle.sheet.specs.Index.{Indexed, Indexes};
+ghost use Rattle.common.specs.Graph.{Graph, distances};
+ghost use Rattle.search.specs.Search.{Holds};
+ghost use Rattle.plan.specs.Needs.{needGraph};
+ghost use Rattle.plan.specs.Groups.{numberedUpto, groupsOf};
+ghost use Rattle.plan.specs.MachineSets.{NamedIn, ReachSets, Mutual, MutualSets, OutsideSets};
+ghost use Rattle.plan.specs.MachineSets.{Grouped, readyBy, nextGroup};
+
+// The machines that a move names, from its body.
+fn named(body: &[u8]) -> u64
+    ensures { λ r. ⌜ NamedIn (moveOf (now (body .entry))) r ⌝ }
+{
+    let mut r: u64 = 0;
+    let mut at: usize = 4;
+    while at + 1 < body.len() {
+        r = sets::put(r, wide(body[at]));
+        at += 2;
+    }
+    r
+}
+
+// For each machine, those that it needs.
+fn needed(s: &[u8], sheet: Sheet) -> [u64; 64]
+    requires { ⌜ Indexed (now s) sheet ⌝ }
+    ensures { λ r. ⌜ ((m : Model) → Indexes (now (s .entry)) sheet m → Holds (needGraph m) r) ⌝ }
+{
+    let mut next = [0u64; 64];
+    let mut v: usize = 0;
+    while v < sheet.moves {
+        let start = sheet.bodies[v] as usize;
+        let b = body(s, start - 4);
+        let i = wide(b[0]);
+        next[i] = sets::join(next[i], named(b));
+        v += 1;
+    }
+    next
+}
+
+// For each of n machines, those that it reaches through needs.
+fn reached(next: &[u64], n: usize) -> [u64; 64]
+    requires { ⌜ (length (now next) ≡ 64) × (n ≤ 64) ⌝ }
+    ensures { λ r. ⌜ ReachSets (now (next .entry)) n r ⌝ }
+{
+    let mut r = [0u64; 64];
+    let mut i: usize = 0;
+    while i < n {
+        r[i] = search::reach(next, i as u8);
+        i += 1;
+    }
+    r
+}
+
+// The machines that machine i reaches and that reach it.
+fn mutual(reach: &[u64], i: usize) -> u64
+    requires { ⌜ (length (now reach) ≡ 64) × (i < 64) ⌝ }
+    ensures { λ r. ⌜ Mutual (now (reach .entry)) i r ⌝ }
+{
+    let mut r: u64 = 0;
+    let mut rest = reach[i];
+    while rest != 0 {
+        let j = sets::lowest(rest);
+        r = sets::put_if(r, j, sets::has(reach[j], i));
+        rest = sets::without(rest, j);
+    }
+    r
+}
+
+// For each of n machines, its group.
+fn together(reach: &[u64], n: usize) -> [u64; 64]
+    requires { ⌜ (length (now reach) ≡ 64) × (n ≤ 64) ⌝ }
+    ensures { λ r. ⌜ MutualSets (now (reach .entry)) n r ⌝ }
+{
+    let mut r = [0u64; 64];
+    let mut i: usize = 0;
+    while i < n {
+        r[i] = mutual(reach, i);
+        i += 1;
+    }
+    r
+}
+
+// For each of n machines, the machines outside its group that the group needs.
+fn outside(next: &[u64], groups: &[u64], n: usize) -> [u64; 64]
+    requires { ⌜ (length (now next) ≡ 64) × (length (now groups) ≡ 64) × (n ≤ 64) ⌝ }
+    ensures { λ r. ⌜ OutsideSets (now (next .entry)) (now (groups .entry)) n r ⌝ }
+{
+    let mut r = [0u64; 64];
+    let mut i: usize = 0;
+    while i < n {
+        r[i] = sets::minus(search::union_of(next, groups[i]), groups[i]);
+        i += 1;
+    }
+    r
+}
+
+// Machine i has no number, and those that its group needs outside have one.
+fn ready(outside: u64, numbered: u64, i: usize) -> bool
+    requires { ⌜ i < 64 ⌝ }
+    ensures { λ r. ⌜ r ≡ readyBy outside numbered i ⌝ }
+{
+    !sets::has(numbered, i) && sets::minus(outside, numbered) == 0
+}
+
+// Of the groups that are ready for a number, the one with the smallest machine; empty if there is none.
+fn next_group(groups: &[u64], outside: &[u64], numbered: u64, n: usize) -> u64
+    requires { ⌜ (length (now groups) ≡ 64) × (length (now outside) ≡ 64) × (n ≤ 64) ⌝ }
+    ensures { λ r. ⌜ r ≡ nextGroup (now (groups .entry)) (now (outside .entry)) numbered n ⌝ }
+{
+    let mut i: usize = 0;
+    while i < n {
+        if ready(outside[i], numbered, i) {
+            return groups[i];
+        }
+        i += 1;
+    }
+    0
+}
+
+// Numbers the groups of n machines.
+fn number(groups: &[u64], outside: &[u64], n: usize) -> [u8; 64]
+    requires { ⌜ (length (now groups) ≡ 64) × (length (now outside) ≡ 64) × (n ≤ 64) ⌝ }
+    ensures { λ r. ⌜ ((g : Graph) → Grouped g n (now (groups .entry)) (now (outside .entry))
+        → take n r ≡ numberedUpto g (distances g) n) ⌝ }
+{
+    let mut numbers = [0u8; 64];
+    let mut numbered: u64 = 0;
+    let mut k: usize = 0;
+    while k < n {
+        let group = next_group(groups, outside, numbered, n);
+        if group == 0 {
+            return numbers;
+        }
+        search::mark(&mut numbers, group, k as u8);
+        numbered = sets::join(numbered, group);
+        k += 1;
+    }
+    numbers
+}
+
+// Each machine's group number.
+pub fn groups(s: &[u8], sheet: Sheet) -> [u8; 64]
+    requires { ⌜ Indexed (now s) sheet ⌝ }
+    ensures { λ r. ⌜ ((m : Model) → Indexes (now (s .entry)) sheet m → take (machineCount m) r ≡ groupsOf m) ⌝ }
+{
+    let n = sheet.machines;
+    let next = needed(s, sheet);
+    let reach = reached(&next, n);
+    let sets = together(&reach, n);
+    let waits = outside(&next, &sets, n);
+    number(&sets, &waits, n)
+}

@@ -1,0 +1,110 @@
+// Sets of numbers below 64, each a u64: number i is in the set s where bit i, worth 2 ^ i, is set.
+ghost use mathlib.Core.Path.{_≡_};
+ghost use mathlib.Core.Bool.{_&&_, _||_};
+ghost use Prim.Native.Nat.{ℕ, _<_, _≤_};
+ghost use lib.Dec.{eqb};
+ghost use Rattle.common.specs.Bits.{bit};
+ghost use Rattle.sets.specs.Sets.{single, below, union, both, less, raised, lowered, least};
+
+pub fn none() -> u64
+    ensures { λ r. ⌜ r ≡ 0 ⌝ }
+{
+    0
+}
+
+pub fn one(i: usize) -> u64
+    requires { ⌜ i < 64 ⌝ }
+    ensures { λ r. ⌜ r ≡ single i ⌝ }
+{
+    1u64 << i
+}
+
+pub fn first(n: usize) -> u64
+    requires { ⌜ n ≤ 64 ⌝ }
+    ensures { λ r. ⌜ r ≡ below n ⌝ }
+{
+    if n < 64 {
+        return one(n) - 1;
+    }
+    u64::MAX
+}
+
+pub fn has(s: u64, i: usize) -> bool
+    requires { ⌜ i < 64 ⌝ }
+    ensures { λ r. ⌜ r ≡ bit s i ⌝ }
+{
+    (s >> i) % 2 == 1
+}
+
+pub fn join(a: u64, b: u64) -> u64
+    ensures { λ r. ⌜ r ≡ union a b ⌝ }
+{
+    a | b
+}
+
+pub fn meet(a: u64, b: u64) -> u64
+    ensures { λ r. ⌜ r ≡ both a b ⌝ }
+{
+    a & b
+}
+
+pub fn minus(a: u64, b: u64) -> u64
+    ensures { λ r. ⌜ r ≡ less a b ⌝ }
+{
+    a & !b
+}
+
+pub fn with(s: u64, i: usize) -> u64
+    requires { ⌜ i < 64 ⌝ }
+    ensures { λ r. ⌜ r ≡ union s (single i) ⌝ }
+{
+    join(s, one(i))
+}
+
+// The set with i where i is below 64.
+pub fn put(s: u64, i: usize) -> u64
+    ensures { λ r. ⌜ ((j : ℕ) → j < 64 → bit r j ≡ (bit s j || eqb i j)) ⌝ }
+{
+    if i < 64 {
+        return with(s, i);
+    }
+    s
+}
+
+// The set, with i only if that is wanted.
+pub fn put_if(s: u64, i: usize, wanted: bool) -> u64
+    requires { ⌜ i < 64 ⌝ }
+    ensures { λ r. ⌜ ((j : ℕ) → bit r j ≡ (bit s j || (wanted && eqb i j))) ⌝ }
+{
+    if wanted {
+        return with(s, i);
+    }
+    s
+}
+
+pub fn without(s: u64, i: usize) -> u64
+    requires { ⌜ i < 64 ⌝ }
+    ensures { λ r. ⌜ r ≡ less s (single i) ⌝ }
+{
+    minus(s, one(i))
+}
+
+pub fn lowest(s: u64) -> usize
+    ensures { λ r. ⌜ r ≡ least s ⌝ }
+{
+    u64::trailing_zeros(s) as usize
+}
+
+pub fn up(s: u64, k: usize) -> u64
+    requires { ⌜ k < 64 ⌝ }
+    ensures { λ r. ⌜ r ≡ raised s k ⌝ }
+{
+    s << k
+}
+
+pub fn down(s: u64, k: usize) -> u64
+    requires { ⌜ k < 64 ⌝ }
+    ensures { λ r. ⌜ r ≡ lowered s k ⌝ }
+{
+    s >> k
+}
