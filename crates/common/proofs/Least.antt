@@ -10,11 +10,14 @@ use native.Mathlib.Omega.{arith}
 use borrow.Author.Tests.{ltb-true, ltb-false, eqb-true, eqb-false, eq-eqb}
 use lib.Dec.{ltb, eqb}
 use Rattle.common.specs.Lists.{any}
-use Rattle.common.proofs.Bools.{by-cases, true-false}
+use Rattle.common.proofs.Bools.{by-cases, true-false, bool-ext}
 use Rattle.common.proofs.Lists.{any-some, any-intro}
 
 pub equal-or-not : (a b : ℕ) → (a ≡ b) ⊎ (a ≡ b → ⊥)
 equal-or-not a b = by-cases (eqb a b) (λ t. inl (eqb-true a b t)) (λ f. inr (eqb-false a b f))
+
+pub eqb-swap : (a b : ℕ) → eqb a b ≡ eqb b a
+eqb-swap a b = bool-ext (λ t. eq-eqb b a (sym (eqb-true a b t))) (λ t. eq-eqb a b (sym (eqb-true b a t)))
 
 pub last-or-below : {u n : ℕ} → u < suc n → (u ≡ n) ⊎ (u < n)
 last-or-below h = eq-or-lt-of-le (le-of-suc-le-suc h)

@@ -14,5 +14,6 @@ pub mod Search
 pub mod Snoc
 pub mod Sums
 pub mod SumsBelow
+pub mod Tested
 pub mod Tests
 pub mod When

@@ -1,16 +1,18 @@
 -- Laws of "for each", "some" and "those that".
 -- Assumes nothing.
-use Prim.Native.Nat.{_≤_, _<_, zero-le, suc-le-suc}
+use Prim.Native.Nat.{ℕ, zero, suc, _≤_, _<_, zero-le, suc-le-suc}
 use mathlib.Core.Path.{_≡_, refl, sym, ap, ap₂, _∙_}
 use mathlib.Core.Logic.{⊎-elim}
 use mathlib.Core.List.{List, [], _∷_, _++_, map, List·Memᴰ, List·Memᴰ·head as head, List·Memᴰ·tail as tail}
 use mathlib.Core.List.{List·Memᴰ·not-nil, List·Memᴰ·cases-cons, append-nil}
-use mathlib.Core.Bool.{Bool, true, false, _&&_, _||_, and-assoc, or-assoc}
+use mathlib.Core.Bool.{Bool, true, false, not, _&&_, _||_, and-assoc, or-assoc}
 use native.Mathlib.Omega.{arith}
+use borrow.Author.Tests.{eq-eqb, ne-eqb}
+use lib.Dec.{eqb}
 use lib.ListN.{length}
 use Rattle.common.specs.Lists.{all, any, filter}
 use Rattle.common.proofs.Bools.{by-cases, true-false, false-of-not-true, and-intro, and-left, and-right}
-use Rattle.common.proofs.Bools.{or-left, or-right, or-false-left, or-false-right}
+use Rattle.common.proofs.Bools.{or-left, or-right, or-false-left, or-false-right, not-of-false, not-of-true}
 use Rattle.common.proofs.Members.{mem-index}
 
 -- For each, and some
@@ -199,3 +201,14 @@ module _ {A : Type 0} (p : A → Bool) (xs : List A) (x : A) where
 pub length-filter-some : {A : Type 0} (p : A → Bool) {x : A} {xs : List A} → List·Memᴰ x xs → p x ≡ true
     → 0 < length (filter p xs)
 length-filter-some p {x} m t = let r = mem-index x (filter-mem p m t) in omega arith
+
+-- a list that has every number below n has at least n
+pub covers-length : (n : ℕ) (xs : List ℕ) → ((k : ℕ) → k < n → List·Memᴰ k xs) → n ≤ length xs
+covers-length zero xs h = zero-le
+covers-length (suc n) xs h =
+    let others : ℕ → Bool = λ k. not (eqb k n) in
+    let rest = covers-length n (filter others xs)
+    (λ k l. filter-mem others (h k (omega arith)) (not-of-false (ne-eqb k n (omega arith)))) in
+    let less = length-filter-less others (λ k. true) (λ k m t. refl) (h n (omega arith))
+    (not-of-true (eq-eqb n n refl)) refl in
+    omega (arith, length-filter (λ k. true) xs)

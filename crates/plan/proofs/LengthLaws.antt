@@ -44,7 +44,7 @@ module _ (m : Model) (groups : Grouping) (few : groupCount groups ≤ 32) where
   abbrev all : List ℕ
   all = upTo (groupCount groups)
 
-  capped-at : {k : ℕ} → k < groupCount groups → getD (cappedSizes m groups) k 0 ≡ capped (size m groups k)
+  pub capped-at : {k : ℕ} → k < groupCount groups → getD (cappedSizes m groups) k 0 ≡ capped (size m groups k)
   unfolding cappedSizes
   capped-at {k} h = let b : k < 32 = omega arith in getD-map-upTo (λ j. capped (size m groups j)) 0 b
 
@@ -56,7 +56,7 @@ module _ (m : Model) (groups : Grouping) (few : groupCount groups ≤ 32) where
   unfolding large
   large-capped k h = ap (ltb 64) (capped-at h) ∙ capped-test (size m groups k)
 
-  large-tests : any isLarge all ≡ largeGroup m groups
+  pub large-tests : any isLarge all ≡ largeGroup m groups
   unfolding largeGroup
   large-tests = any-cong isLarge (large m groups) all (λ k l. large-capped k (upTo-below _ l))
 
@@ -75,7 +75,7 @@ module _ (m : Model) (groups : Grouping) (few : groupCount groups ≤ 32) where
     unfolding firstLarge
     first-is = rw (are, count) at first
 
-    some-large : k < n → any isLarge all ≡ true
+    pub some-large : k < n → any isLarge all ≡ true
     some-large h =
         true-of-not-false (λ f. omega (arith, first-is, find-none isLarge all (groupCount groups) f))
 
@@ -101,7 +101,7 @@ module _ (m : Model) (groups : Grouping) (few : groupCount groups ≤ 32) where
     length-large {p} h e =
         rw (e, ← place-is h) (sym (first-refuses [] (fault 9 _ _) _ _ tt (sym large-tests ∙ some-large h)))
 
-    small : n ≤ k → SmallGroups m groups
+    pub small : n ≤ k → SmallGroups m groups
     small h = no-large-group m groups (sym large-tests ∙ none-large h)
 
     module _ {cells : ℕ} (h : n ≤ k) (entries : cells ≡ entriesOf sizes n) where

@@ -17,8 +17,11 @@ use Rattle.plan.specs.MachineSets.{ReachSets, MutualSets, OutsideSets, G
 use Rattle.plan.proofs.Needs.{length-needGraph}
 use Rattle.plan.proofs.GroupSets.{mutual-together}
 
+pub few-machines : {s : List ℕ} {x : Sheet} → Indexed s x → x .machines ≤ 32
+few-machines (m, i) = omega (arith, indexes-machines i, indexes-valid i .few-machines)
+
 pub machines-fit : {s : List ℕ} {x : Sheet} → Indexed s x → x .machines ≤ 64
-machines-fit (m, i) = omega (arith, indexes-machines i, indexes-valid i .few-machines)
+machines-fit x = omega (arith, few-machines x)
 
 module _ {s : List ℕ} {x : Sheet} {m : Model} (i : Indexes s x m) where
   pub groups-kept : {next reach groups outside : List ℕ} → Holds (needGraph m) next → ReachSets next (x .machines) reach

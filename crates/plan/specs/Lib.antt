@@ -7,6 +7,8 @@ pub mod Meaning
 pub mod Measured
 pub mod Modes
 pub mod Needs
+pub mod Outline
+pub mod Partition
 pub mod Planning
 pub mod Promised
 pub mod Reading

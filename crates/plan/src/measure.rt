@@ -34,7 +34,7 @@ pub enum Length {
 }
 
 // Of the first groups, the lowest that has too many modes, or their number.
-fn first_large(sizes: &[u8], count: usize) -> usize
+pub fn first_large(sizes: &[u8], count: usize) -> usize
     requires { ⌜ count ≤ length (now sizes) ⌝ }
     ensures { λ r. ⌜ r ≡ firstLarge (now (sizes .entry)) count ⌝ }
 {

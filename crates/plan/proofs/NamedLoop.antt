@@ -1,0 +1,143 @@
+-- The loop over a sheet's moves that gathers, for each group, the set of the other groups that its moves name.
+-- Assumes nothing.
+use Prim.Native.Nat.{ℕ, _+_, _^_, _≤_, _<_}
+use mathlib.Core.Path.{_≡_, refl, sym, ap, _∙_}
+use mathlib.Core.List.{List, [], _∷_, Memᴰ·cast}
+use mathlib.Core.Bool.{Bool, true, false, not, _&&_, _||_, or-false}
+use native.Mathlib.Nat.{le-trans}
+use native.Mathlib.Numerals.{add-one}
+use native.Mathlib.Omega.{arith}
+use borrow.Author.Tests.{eqb-true, eqb-false, eq-eqb, ne-eqb, not-true, ltb-true, ltb-false}
+use lib.Dec.{eqb, ltb}
+use lib.ListN.{length, getD, set, replicate, length-set}
+use lib.Pow.{pow-mono}
+use lib.Seq.{getD-set-same, getD-set-other}
+use Rattle.common.specs.Bits.{bit}
+use Rattle.common.specs.Lists.{upTo, any}
+use Rattle.common.proofs.Bits.{bit-past}
+use Rattle.common.proofs.Bools.{by-cases, bool-ext, and-intro, and-left, and-right, not-of-false}
+use Rattle.common.proofs.Lists.{any-intro, any-some, any-fails, any-append, filter-mem, filter-from, filter-holds}
+use Rattle.common.proofs.Members.{upTo-mem, upTo-below}
+use Rattle.common.proofs.Pad.{getD-zeros}
+use Rattle.sets.specs.Sets.{union}
+use Rattle.sets.proofs.Laws.{bit-none, bit-union}
+use Rattle.sheet.specs.Model.{Model, machineCount, moveCount, moveAt}
+use Rattle.sheet.specs.Valid.{Valid}
+use Rattle.plan.specs.Groups.{Grouping, groupOf, groupCount, movesOf, namesGroup, namedOutside}
+use Rattle.plan.specs.Partition.{OutsideNamed, countedMoves, NamedSets}
+use Rattle.plan.proofs.Named.{group-below-count, moves-in, moves-below, moves-group, guard-valid, moves-mem}
+use Rattle.plan.proofs.Named.{named-in, named-below, named-other, named-by}
+
+module _ (m : Model) (groups : Grouping) (counted : List ℕ) where
+  -- move u is of group k, counts, and names group a outside
+  unfoldable pub namesBy : ℕ → ℕ → ℕ → Bool
+  namesBy k a u =
+      eqb (groupOf groups (moveAt m u .machine)) k
+      && (not (eqb (getD counted u 0) 0) && (namesGroup groups a (moveAt m u) && not (eqb k a)))
+
+  -- what the first v moves name is in the sets r
+  pub record NamedUpto (v : ℕ) (r : List ℕ) : Type 0 where
+    pub long : length r ≡ 32
+    pub fits : (k : ℕ) → getD r k 0 < 2 ^ 64
+    pub bits : (k a : ℕ) → k < 32 → a < 64 → bit (getD r k 0) a ≡ any (namesBy k a) (upTo v)
+
+  pub named-none : NamedUpto 0 (replicate 32 0)
+  unfolding any upTo
+  named-none =
+      record {
+        long = refl;
+        fits = λ k. rw getD-zeros (omega arith);
+        bits = λ k a h b. rw getD-zeros (bit-none a);
+      }
+
+  -- one more move
+  module _ {v : ℕ} {r : List ℕ} (n : NamedUpto v r) where
+    any-next : (k a : ℕ) {b : Bool} → b ≡ (any (namesBy k a) (upTo v) || namesBy k a v)
+        → b ≡ any (namesBy k a) (upTo (v + 1))
+    unfolding any upTo
+    any-next k a h =
+        rw add-one
+        (h ∙ ap (_||_ (any (namesBy k a) (upTo v))) (sym (or-false (namesBy k a v)))
+        ∙ sym (any-append (namesBy k a) (upTo v) (v ∷ [])))
+
+    module _ {own x t : ℕ} (h : own < 32) (e : own ≡ groupOf groups (moveAt m v .machine))
+        (names : OutsideNamed groups (moveAt m v) own (getD counted v 0) x) (q : t ≡ union (getD r own 0) x) where
+      here : (a : ℕ) → a < 64 → bit t a ≡ any (namesBy own a) (upTo (v + 1))
+      unfolding namesBy
+      here a b = any-next own a (rw (q, bit-union, n .bits own a h b, names .bits a b, ← e, eq-eqb own own refl))
+
+      other : (k a : ℕ) → k < 32 → a < 64 → (k ≡ own → ⊥) → bit (getD r k 0) a ≡ any (namesBy k a) (upTo (v + 1))
+      unfolding namesBy
+      other k a l b d = any-next k a (rw (n .bits k a l b, ← e, ne-eqb own k (λ z. d (sym z))) (sym (or-false _)))
+
+      pub named-next : t < 2 ^ 64 → NamedUpto (v + 1) (set r own t)
+      named-next fits =
+          let inside : own < length r = omega (arith, n .long) in
+          record {
+            long = length-set r own t ∙ n .long;
+            fits = λ k.
+                by-cases (eqb k own)
+                (λ y. rw (eqb-true k own y, getD-set-same r own t 0 inside) fits)
+                (λ f. rw (getD-set-other r own k t 0 (eqb-false k own f)) (n .fits k));
+            bits = λ k a l b.
+                by-cases (eqb k own)
+                (λ y. rw (eqb-true k own y, getD-set-same r own t 0 inside) (here a b))
+                (λ f. rw (getD-set-other r own k t 0 (eqb-false k own f)) (other k a l b (eqb-false k own f)));
+          }
+
+  -- What the moves name altogether
+
+  module _ (valid : Valid m) (all-machines : length groups ≡ machineCount m) (k a : ℕ) where
+    abbrev moves : List ℕ
+    moves = countedMoves m groups counted k
+
+    named-listed : any (namesBy k a) (upTo (moveCount m)) ≡ true → any (eqb a) (namedOutside m groups k moves) ≡ true
+    unfolding namesBy namesGroup countedMoves
+    named-listed t =
+        let (u, u-in, by) = any-some (namesBy k a) (upTo (moveCount m)) t in
+        let of-group = eqb-true _ _ (and-left _ _ by) in
+        let rest = and-right (eqb (groupOf groups (moveAt m u .machine)) k) _ by in
+        let counts = and-left _ _ rest in
+        let names = and-right (not (eqb (getD counted u 0) 0)) _ rest in
+        let (g, g-in, on) = any-some _ (moveAt m u .guards) (and-left _ _ names) in
+        let other = and-right (namesGroup groups a (moveAt m u)) _ names in
+        let of-k = moves-in m groups (upTo-below (moveCount m) u-in) of-group in
+        let present = guard-valid valid (moves-mem m groups k of-k) g-in .present in
+        let same : groupOf groups (g .machine) ≡ a = eqb-true _ _ on in
+        let below = group-below-count groups (g .machine) (rw all-machines present) in
+        any-intro (eqb a)
+        (named-in m groups (omega arith) (λ e. eqb-false k a (not-true _ other) (sym e))
+        (u, filter-mem _ of-k counts, g, g-in, same))
+        (eq-eqb a a refl)
+
+    listed-named : any (eqb a) (namedOutside m groups k moves) ≡ true → any (namesBy k a) (upTo (moveCount m)) ≡ true
+    unfolding namesBy namesGroup countedMoves
+    listed-named t =
+        let (b, b-in, e) = any-some (eqb a) (namedOutside m groups k moves) t in
+        let a-in = Memᴰ·cast (eqb-true a b e) b-in in
+        let by = named-by m groups k moves a-in in
+        let of-k = filter-from _ (movesOf m groups k) (by .1) in
+        any-intro (namesBy k a) (upTo-mem (moves-below m groups k of-k))
+        (and-intro (eq-eqb _ _ (moves-group m groups k of-k))
+        (and-intro (filter-holds _ (movesOf m groups k) (by .1))
+        (and-intro (any-intro _ (by .3) (eq-eqb _ _ (by .4)))
+        (not-of-false (ne-eqb k a (λ z. named-other m groups k moves a-in (sym z)))))))
+
+    pub named-exactly : any (namesBy k a) (upTo (moveCount m)) ≡ any (eqb a) (namedOutside m groups k moves)
+    named-exactly = bool-ext named-listed listed-named
+
+    none-past : groupCount groups ≤ a → any (eqb a) (namedOutside m groups k moves) ≡ false
+    none-past h =
+        any-fails (eqb a) _ (λ b l. ne-eqb a b (λ e. omega (arith, named-below m groups k moves l)))
+
+  pub named-end : {v : ℕ} {r : List ℕ} → Valid m → length groups ≡ machineCount m → groupCount groups ≤ 32
+      → NamedUpto v r → v ≡ moveCount m → NamedSets m groups counted r
+  named-end {v} {r} valid all-machines few n e =
+      record {
+        bits = λ k a h.
+            by-cases (ltb a 64)
+            (λ t. n .bits k a h (ltb-true a 64 t) ∙ rw e (named-exactly valid all-machines k a))
+            (λ f.
+            bit-past (getD r k 0) a (le-trans (n .fits k) (pow-mono (ltb-false a 64 f)))
+            ∙ sym (none-past valid all-machines k a (omega (arith, ltb-false a 64 f))));
+      }

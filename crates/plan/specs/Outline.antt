@@ -1,0 +1,79 @@
+-- Judging a plan's shape: what the code keeps of a sheet and of a plan for it, and the reply.
+use Prim.Native.Nat.{ℕ, _+_, _*_, _≤_, _<_}
+use mathlib.Core.Path.{_≡_}
+use mathlib.Core.List.{List, [], _∷_, map}
+use mathlib.Core.Bool.{Bool, true, not, _&&_}
+use lib.ListN.{length, getD}
+use lib.Dec.{eqb}
+use Rattle.common.specs.Lists.{upTo, all, any, sum}
+use Rattle.common.specs.Bits.{bit}
+use Rattle.common.specs.Reply.{Reply, given, refused, fault, unless, andThen}
+use Rattle.sets.specs.Sets.{lowered}
+use Rattle.sheet.specs.declared.index.Sheet.{Sheet}
+use Rattle.sheet.specs.declared.refusal.Verdict.{Verdict}
+use Rattle.sheet.specs.declared.refusal.Verdict.the-variants.{Accepted, Refused}
+use Rattle.sheet.specs.Refusal.{numberOf}
+use Rattle.sheet.specs.Record.{word}
+use Rattle.sheet.specs.Model.{Model}
+use Rattle.sheet.specs.Parse.{parse}
+use Rattle.plan.specs.declared.reading.Outline.{Outline}
+use Rattle.plan.specs.Groups.{groupCount}
+use Rattle.plan.specs.Bytes.{tableAt}
+use Rattle.plan.specs.Reading.{groupsIn, hasRecord, wellShaped}
+use Rattle.plan.specs.Partition.{Partitioned}
+
+-- s holds the numbers below 64 that occur
+pub record Used (numbers : List ℕ) (s : ℕ) : Type 0 where
+  pub bits : (k : ℕ) → k < 64 → bit s k ≡ any (eqb k) numbers
+
+-- no group names one above it, by the sets of the other groups that each names
+unfoldable pub lowerNamed : List ℕ → ℕ → Bool
+lowerNamed named count = all (λ k. eqb (lowered (getD named k 0) k) 0) (upTo count)
+
+-- the bytes of the table of a group of n modes
+unfoldable pub tableBytes : ℕ → ℕ
+tableBytes n = 2 * (n * n)
+
+-- where the record of group k begins, by the sizes of the groups, behind the numbers of n machines
+unfoldable pub startAt : List ℕ → ℕ → ℕ → ℕ
+startAt sizes n k = 4 + n + sum (map (λ a. 4 + tableBytes (getD sizes a 0)) (upTo k))
+
+-- where the records of the groups begin, and the record behind them
+pub record StartsAt (sizes : List ℕ) (n count : ℕ) (starts : List ℕ) : Type 0 where
+  pub each : (k : ℕ) → k ≤ count → getD starts k 0 ≡ startAt sizes n k
+
+-- a table's record at each of these places
+unfoldable pub tablesFit : List ℕ → List ℕ → List ℕ → ℕ → Bool
+tablesFit plan sizes starts count =
+    all (λ k. hasRecord plan (getD starts k 0) 17 (tableBytes (getD sizes k 0))) (upTo count)
+
+-- the bound and the end at a place, and nothing behind them
+unfoldable pub endsAt : List ℕ → ℕ → Bool
+endsAt plan at = hasRecord plan at 18 4 && hasRecord plan (at + 8) 3 0 && eqb (length plan) (at + 12)
+
+-- the bound in the record at a place
+unfoldable pub boundAt : List ℕ → ℕ → ℕ
+boundAt plan at = word plan (at + 4) + 65536 * word plan (at + 6)
+
+-- what a verdict says in document 01's terms
+abbrev pub verdictSays : Verdict → Reply Unit
+verdictSays Accepted = given tt
+verdictSays (Refused cause place) = refused (numberOf cause) place
+
+-- the reply of the shape alone (15), and with the sheet's tests before it (1 to 8)
+abbrev pub shapeReply : Model → List ℕ → Reply Unit
+shapeReply m plan = unless (fault 15 0 (not (wellShaped m plan)) ∷ []) (given tt)
+
+unfoldable pub outlineReply : List ℕ → List ℕ → Reply Unit
+outlineReply file plan = andThen (parse file) (λ d. shapeReply (d .model) plan)
+
+-- what is kept of a sheet, its index x and its model m, and of a plan in shape for it
+pub record Outlined (x : Sheet) (m : Model) (plan : List ℕ) (r : Outline) : Type 0 where
+  pub sheet : r .sheet ≡ x
+  pub groups : Partitioned m (groupsIn m plan) (r .groups)
+  pub starts : (k : ℕ) → k ≤ groupCount (groupsIn m plan) → getD (r .starts) k 0 ≡ tableAt m (groupsIn m plan) k
+
+-- what judging the shape alone answers
+pub record ShapeJudged (x : Sheet) (m : Model) (plan : List ℕ) (r : Outline) : Type 0 where
+  pub verdict : verdictSays (r .verdict) ≡ shapeReply m plan
+  pub kept : wellShaped m plan ≡ true → Outlined x m plan r

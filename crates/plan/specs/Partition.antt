@@ -1,0 +1,50 @@
+-- How the code keeps the groups of given numbers.
+use Prim.Native.Nat.{ℕ, _<_}
+use mathlib.Core.Path.{_≡_}
+use mathlib.Core.List.{List, map}
+use mathlib.Core.Bool.{not, _&&_}
+use lib.ListN.{length, getD}
+use lib.Dec.{eqb}
+use Rattle.common.specs.Bits.{bit}
+use Rattle.common.specs.Lists.{upTo, any, filter, pad}
+use Rattle.sheet.specs.declared.index.Sheet.{Sheet}
+use Rattle.sheet.specs.Model.{Move, Model}
+use Rattle.plan.specs.declared.partition.Groups.{Groups}
+use Rattle.plan.specs.Groups.{Grouping, groupOf, groupCount, movesOf, namesGroup, namedOutside}
+use Rattle.plan.specs.Modes.{weight}
+use Rattle.plan.specs.Sizes.{capped, cappedSizes}
+
+-- a number below 32 for each machine of a sheet
+pub record Numbers (x : Sheet) (numbers : List ℕ) : Type 0 where
+  pub one-each : length numbers ≡ x .machines
+  pub below : (i : ℕ) → i < length numbers → getD numbers i 0 < 32
+
+-- the weight of each machine in its group
+unfoldable pub cappedWeights : Model → Grouping → List ℕ
+cappedWeights m groups = pad 32 (map (λ i. capped (weight m groups (groupOf groups i) i)) (upTo (length groups)))
+
+-- s holds the groups below 64 that move v names
+pub record NamesIn (groups : Grouping) (v : Move) (s : ℕ) : Type 0 where
+  pub bits : (a : ℕ) → a < 64 → bit s a ≡ namesGroup groups a v
+
+-- and those outside the move's own group; none where the move does not count
+pub record OutsideNamed (groups : Grouping) (v : Move) (own counts s : ℕ) : Type 0 where
+  pub bits : (a : ℕ) → a < 64 → bit s a ≡ (not (eqb counts 0) && (namesGroup groups a v && not (eqb own a)))
+
+-- the moves of group k that count, by a byte for each move
+unfoldable pub countedMoves : Model → Grouping → List ℕ → ℕ → List ℕ
+countedMoves m groups counted k = filter (λ v. not (eqb (getD counted v 0) 0)) (movesOf m groups k)
+
+-- for each group, the set of the outside groups that its counted moves name
+pub record NamedSets (m : Model) (groups : Grouping) (counted sets : List ℕ) : Type 0 where
+  pub bits : (k a : ℕ) → k < 32
+      → bit (getD sets k 0) a ≡ any (eqb a) (namedOutside m groups k (countedMoves m groups counted k))
+
+-- the groups of a sheet, all moves counting
+pub record Partitioned (m : Model) (groups : Grouping) (r : Groups) : Type 0 where
+  pub count : r .count ≡ groupCount groups
+  pub numbers : r .numbers ≡ pad 32 groups
+  pub sizes : r .sizes ≡ cappedSizes m groups
+  pub weights : r .weights ≡ cappedWeights m groups
+  pub named : (k a : ℕ) → k < 32
+      → bit (getD (r .named) k 0) a ≡ any (eqb a) (namedOutside m groups k (movesOf m groups k))
