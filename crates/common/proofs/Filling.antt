@@ -1,7 +1,7 @@
 -- A loop that fills an array from the front: what it writes at each place has a property there.
 -- Assumes nothing.
 use Prim.Native.Nat.{ℕ, _+_, _≤_, _<_, zero-le}
-use mathlib.Core.Path.{_≡_, _∙_}
+use mathlib.Core.Path.{_≡_}
 use mathlib.Core.Logic.{⊎-elim}
 use mathlib.Core.List.{List}
 use native.Mathlib.Nat.{not-suc-le-zero, eq-or-lt-of-le}
@@ -9,24 +9,24 @@ use native.Mathlib.Omega.{arith}
 use lib.ListN.{length, getD, set, length-set}
 use lib.Seq.{getD-set-same, getD-set-other}
 
--- the places before i of an array of 64, of which n are to be filled
+-- the places before i of an array, of which n are to be filled
 pub record Filled (P : ℕ → ℕ → Type 0) (n i : ℕ) (r : List ℕ) : Type 0 where
   pub within : i ≤ n
-  pub long : length r ≡ 64
+  pub long : n ≤ length r
   pub each : (k : ℕ) → k < i → P k (getD r k 0)
 
 module _ (P : ℕ → ℕ → Type 0) {n : ℕ} where
-  pub filled-none : {r : List ℕ} → length r ≡ 64 → Filled P n 0 r
+  pub filled-none : {r : List ℕ} → n ≤ length r → Filled P n 0 r
   filled-none h = record { within = zero-le; long = h; each = λ k l. absurd (not-suc-le-zero l) }
 
-  pub filled-next : {i x : ℕ} {r : List ℕ} → Filled P n i r → i < n → n ≤ 64 → P i x → Filled P n (i + 1) (set r i x)
-  filled-next {i} {x} {r} f h small p =
+  pub filled-next : {i x : ℕ} {r : List ℕ} → Filled P n i r → i < n → P i x → Filled P n (i + 1) (set r i x)
+  filled-next {i} {x} {r} f h p =
       record {
         within = omega arith;
-        long = length-set r i x ∙ f .long;
+        long = rw length-set (f .long);
         each = λ k l.
             ⊎-elim
-            (λ (e : k ≡ i). rw (e, getD-set-same r i x 0 (omega arith)) p)
+            (λ (e : k ≡ i). rw (e, getD-set-same r i x 0 (omega (arith, f .long))) p)
             (λ (b : k < i). rw (getD-set-other r i k x 0 (omega arith)) (f .each k b))
             (eq-or-lt-of-le (omega arith));
       }

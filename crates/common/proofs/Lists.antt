@@ -136,6 +136,12 @@ module _ {A : Type 0} (p : A → Bool) where
 pub all-of-filter : {A : Type 0} (p q : A → Bool) (xs : List A) → all p xs ≡ true → all p (filter q xs) ≡ true
 all-of-filter p q xs h = all-intro p (filter q xs) (λ x m. all-at p h (filter-from q xs m))
 
+-- for each of those that: each is one or is not among those
+pub all-filtered : {A : Type 0} (p q : A → Bool) (xs : List A) → all p (filter q xs) ≡ all (λ x. not (q x) || p x) xs
+unfolding all filter
+all-filtered p q [] = refl
+all-filtered p q (x ∷ xs) = by-cases (q x) (λ t. rw t (ap (_&&_ (p x)) (all-filtered p q xs))) (λ f. rw f (all-filtered p q xs))
+
 -- Functions that agree on the members
 
 module _ {A : Type 0} (p q : A → Bool) where

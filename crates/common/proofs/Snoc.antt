@@ -3,12 +3,14 @@
 use Prim.Native.Nat.{ℕ, zero, suc, _<_}
 use mathlib.Core.Path.{_≡_, sym, ap, _∙_}
 use mathlib.Core.List.{List, [], _∷_, _++_, map, map-append}
+use mathlib.Core.Bool.{Bool, _||_, or-false}
 use mathlib.Core.Logic.{⊎-elim}
 use native.Mathlib.Nat.{eq-or-lt-of-le, le-of-suc-le-suc}
 use native.Mathlib.Omega.{arith}
 use lib.ListN.{length, getD, length-append, List·getD-append}
 use lib.Seq.{getD-at}
-use Rattle.common.specs.Lists.{upTo}
+use Rattle.common.specs.Lists.{upTo, any}
+use Rattle.common.proofs.Lists.{any-append}
 use Rattle.common.proofs.Members.{length-map-upTo, getD-map-upTo}
 
 module _ {A : Type 0} (xs : List A) (x : A) where
@@ -23,6 +25,11 @@ module _ {A : Type 0} (xs : List A) (x : A) where
       (λ e. rw (getD-at xs x [] d i (sym e), e) new)
       (λ l. rw (List·getD-append xs (x ∷ []) d i l) (old i l))
       (eq-or-lt-of-le (le-of-suc-le-suc (rw length-snoc at h)))
+
+-- some member that: one of those before, or the last
+pub any-snoc : {A : Type 0} (p : A → Bool) (xs : List A) (x : A) → any p (xs ++ (x ∷ [])) ≡ (any p xs || p x)
+unfolding any
+any-snoc p xs x = any-append p xs (x ∷ []) ∙ ap (_||_ (any p xs)) (or-false (p x))
 
 -- where each list is the one before and one more element, the elements are those that were added
 module _ {A : Type 0} (upto : ℕ → List A) (next : ℕ → A) (none : upto 0 ≡ [])

@@ -4,10 +4,9 @@ use Prim.Native.Nat.{ℕ, _≤_, _<_}
 use mathlib.Core.Path.{_≡_, refl, sym, subst, _∙_}
 use mathlib.Core.Logic.{_↔_}
 use mathlib.Core.List.{[], map, List·Memᴰ, Memᴰ·of-map}
-use mathlib.Core.Bool.{cond}
 use native.Mathlib.Omega.{arith}
 use lib.ListN.{length, getD}
-use Rattle.common.specs.Lists.{upTo, maximum}
+use Rattle.common.specs.Lists.{upTo}
 use Rattle.common.specs.Graph.{Matrix, between, connected}
 use Rattle.common.proofs.Bools.{by-cases, cond-true, cond-false}
 use Rattle.common.proofs.Members.{upTo-below, length-map-upTo}
@@ -25,31 +24,26 @@ use Rattle.plan.proofs.Words.{moves-mean, named-mean}
 use Rattle.plan.proofs.Routes.{allRoutes}
 use Rattle.plan.proofs.Usable.{Ordered, own-ordered}
 use Rattle.plan.proofs.Distances.{routes-length, route-of-between, between-at-most, between-below, between-longest}
-use Rattle.plan.proofs.Distances.{between-self, connected-size}
+use Rattle.plan.proofs.Distances.{between-self, connected-size, cell, row}
 use Rattle.plan.proofs.Costs.{costOf, cost-rule, bound-sum}
 use Rattle.plan.proofs.OwnLaws.{longestOf}
 
 module _ (d : Matrix) where
-  abbrev cell : ℕ → ℕ → ℕ
-  cell p q = cond (connected d p q) (between d p q) 0
-
-  abbrev row : ℕ → ℕ
-  row p = maximum (map (cell p) (upTo (length d)))
-
   -- two nodes as far apart as any that are connected; where all distances are 0, some two
   pub record Farthest : Type 0 where
     pub from : ℕ
     pub to : ℕ
     pub from-below : from < length d
     pub to-below : to < length d
-    pub far : cell from to ≡ longest d
+    pub far : cell d from to ≡ longest d
 
   pub farthest : 0 < length d → Farthest
   unfolding longest
   farthest h =
       let n = length d in
-      let x = Memᴰ·of-map row (upTo n) (maximum-some (map row (upTo n)) (rw length-map-upTo h)) in
-      let y = Memᴰ·of-map (cell (x .0)) (upTo n) (maximum-some (map (cell (x .0)) (upTo n)) (rw length-map-upTo h)) in
+      let x = Memᴰ·of-map (row d) (upTo n) (maximum-some (map (row d) (upTo n)) (rw length-map-upTo h)) in
+      let some = cell d (x .0) in
+      let y = Memᴰ·of-map some (upTo n) (maximum-some (map some (upTo n)) (rw length-map-upTo h)) in
       record {
         from = x .0;
         to = y .0;

@@ -18,9 +18,9 @@ use Rattle.common.proofs.Bools.{and-intro, and-left, and-right, or-left, or-rig
 use Rattle.common.proofs.Lists.{any-intro, any-some}
 use Rattle.common.proofs.Members.{upTo-below}
 use Rattle.common.proofs.Search.{find-cong}
-use Rattle.sets.specs.Sets.{less, members}
+use Rattle.sets.specs.Sets.{less, elements}
 use Rattle.sets.proofs.Laws.{bit-none, bit-less, no-bits}
-use Rattle.sets.proofs.Members.{bit-member, member-bit}
+use Rattle.sets.proofs.Members.{bit-element, element-bit}
 use Rattle.search.specs.Search.{Holds}
 use Rattle.search.proofs.Between.{successor-bit, bit-successor, reached-connected, reached-node}
 use Rattle.plan.specs.Groups.{Grouping}
@@ -56,11 +56,11 @@ module _ {g : Graph} {n : ℕ} {groups outside : List ℕ} (k : Grouped g n grou
         → (a : ℕ) × (joined g i a ≡ true) × List·Memᴰ j (successors g a) × (joined g i j ≡ false)
     outside-some j t =
         let b = sym (k .needs .each i h .bits j) ∙ t in
-        let (a, a-in, u) = any-some _ (members (getD groups i 0)) (and-left _ _ b) in (
+        let (a, a-in, u) = any-some _ (elements (getD groups i 0)) (and-left _ _ b) in (
           a,
-          sym (k .group i h a) ∙ member-bit _ a-in,
+          sym (k .group i h a) ∙ element-bit _ a-in,
           bit-successor g (k .next) (k .holds) a j u,
-          sym (k .group i h j) ∙ not-true _ (and-right (any _ (members (getD groups i 0))) _ b),
+          sym (k .group i h j) ∙ not-true _ (and-right (any _ (elements (getD groups i 0))) _ b),
         )
 
     pub some-outside : (a j : ℕ) → joined g i a ≡ true → List·Memᴰ j (successors g a) → joined g i j ≡ false
@@ -69,7 +69,7 @@ module _ {g : Graph} {n : ℕ} {groups outside : List ℕ} (k : Grouped g n grou
         let small : a < 64 = omega (arith, connected-nodes g i a (joined-there g i a t), k .holds .small) in
         k .needs .each i h .bits j
         ∙ and-intro
-        (any-intro _ (bit-member _ small (k .group i h a ∙ t)) (successor-bit g (k .next) (k .holds) a j l))
+        (any-intro _ (bit-element _ small (k .group i h a ∙ t)) (successor-bit g (k .next) (k .holds) a j l))
         (not-of-false (k .group i h j ∙ f))
 
   -- The first group that is ready

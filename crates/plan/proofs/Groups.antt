@@ -101,10 +101,6 @@ module _ (m : Model) where
   pub groups-right : Valid m → GroupsRight m (groupsOf m)
   groups-right valid = groups-of-any
 
-  -- there are no more groups than machines
-  pub number-small : (i : ℕ) → i < machineCount m → groupOf (groupsOf m) i < machineCount m
-  number-small i h = rw groups-rounds (omega (arith, number-given own closed i (node h), length-needGraph m))
-
 -- The tests of a plan's group numbers hold for any grouping that is right
 
 module _ {m : Model} {groups : Grouping} where

@@ -48,6 +48,11 @@ module _ (m : Model) (groups : Grouping) (few : groupCount groups ≤ 32) where
   unfolding cappedSizes
   capped-at {k} h = let b : k < 32 = omega arith in getD-map-upTo (λ j. capped (size m groups j)) 0 b
 
+  -- where no group is large, the capped sizes are the sizes
+  pub size-kept : SmallGroups m groups → (k : ℕ) → k < groupCount groups
+      → getD (cappedSizes m groups) k 0 ≡ size m groups k
+  size-kept small k h = capped-at h ∙ capped-small (size m groups k) (omega (arith, small k h))
+
   -- a group is large by its capped size exactly if it is large
   abbrev isLarge : ℕ → Bool
   isLarge k = ltb 64 (getD (cappedSizes m groups) k 0)
@@ -63,10 +68,7 @@ module _ (m : Model) (groups : Grouping) (few : groupCount groups ≤ 32) where
   entries-are : SmallGroups m groups → entriesOf (cappedSizes m groups) (groupCount groups) ≡ squares m groups
   unfolding entriesOf
   entries-are small =
-      ap sum (map-cong _ _ all (λ k l.
-      let h = upTo-below (groupCount groups) l in
-      let s = capped-at h ∙ capped-small (size m groups k) (omega (arith, small k h)) in
-      rw s))
+      ap sum (map-cong _ _ all (λ k l. rw (size-kept small k (upTo-below (groupCount groups) l))))
 
   -- what the code computes: the number of groups, their capped sizes, and the first large group
   module _ {n k : ℕ} {sizes : List ℕ} (count : n ≡ groupCount groups) (are : sizes ≡ cappedSizes m groups)

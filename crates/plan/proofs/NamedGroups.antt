@@ -2,22 +2,23 @@
 -- sets.
 -- Assumes nothing.
 use Prim.Native.Nat.{ℕ, _+_, _-_, _^_, _≤_, _<_}
-use mathlib.Core.Path.{_≡_, refl, ap, subst, _∙_}
+use mathlib.Core.Path.{_≡_, refl, ap, _∙_}
 use mathlib.Core.List.{List}
 use native.Mathlib.Omega.{arith}
 use borrow.Author.Tests.{ne-eqb}
 use lib.ListN.{length, getD, set}
-use Rattle.sets.specs.Sets.{single, union, less}
-use Rattle.sets.proofs.Laws.{bit-none, bit-less, bit-single}
+use Rattle.sets.specs.Sets.{alone, union, less}
+use Rattle.sets.proofs.Laws.{bit-none, bit-less, bit-alone}
 use Rattle.sheet.specs.declared.index.Sheet.{Sheet}
 use Rattle.sheet.specs.Record.{byte, bodyAt}
-use Rattle.sheet.specs.Model.{Move, Model, moveCount, moveAt, moveOf}
+use Rattle.sheet.specs.Model.{Move, Model, moveAt, moveOf}
 use Rattle.sheet.specs.Index.{Indexes}
-use Rattle.sheet.proofs.Indexed.{indexes-valid, indexes-machines, indexes-moves, indexes-body}
+use Rattle.sheet.proofs.Indexed.{indexes-valid, indexes-machines, indexes-moves}
 use Rattle.plan.specs.Groups.{Grouping, groupOf}
 use Rattle.plan.specs.Partition.{Numbers, NamesIn, OutsideNamed, NamedSets}
 use Rattle.plan.proofs.GroupLoops.{few-groups}
 use Rattle.plan.proofs.SheetNumbers.{numbers-small}
+use Rattle.plan.proofs.MoveTurns.{turn-move, turn-machine, turn-machine-below}
 use Rattle.plan.proofs.NamedLoop.{NamedUpto, named-next, named-end}
 
 -- One move
@@ -26,41 +27,29 @@ module _ (groups : Grouping) (v : Move) (own counts : ℕ) where
   pub uncounted : counts ≡ 0 → OutsideNamed groups v own counts 0
   uncounted e = record { bits = λ a h. bit-none a ∙ rw e }
 
-  pub outside-own : {s r : ℕ} → (counts ≡ 0 → ⊥) → NamesIn groups v s → r ≡ less s (single own)
+  pub outside-own : {s k r : ℕ} → (counts ≡ 0 → ⊥) → NamesIn groups v s → k ≡ own → r ≡ less s (alone k)
       → OutsideNamed groups v own counts r
-  outside-own n names e =
-      record { bits = λ a h. rw (e, bit-less, bit-single, names .bits a h, ne-eqb counts 0 n) }
+  outside-own n names q e =
+      record { bits = λ a h. rw (e, q, bit-less, bit-alone, names .bits a h, ne-eqb counts 0 n) }
 
 -- One turn of the loop over a sheet's moves, by what its calls ensure
 
 module _ {s : List ℕ} {x : Sheet} {m : Model} (i : Indexes s x m) {v : ℕ} (h : v < x .moves)
     {b : List ℕ} (e : b ≡ bodyAt s (getD (x .bodies) v 0 - 4)) {numbers : List ℕ} (n : Numbers x numbers)
-    {w : ℕ} (f : w ≡ byte b 0) where
-  present : v < moveCount m
-  present = omega (arith, indexes-moves i)
+    {g k : ℕ} (f : g ≡ groupOf numbers (byte b 0)) (q : k ≡ g) where
+  -- the group of the move's machine
+  pub turn-group : k < 32
+  turn-group =
+      let numbered : byte b 0 < length numbers =
+      omega (arith, turn-machine-below i h e, indexes-machines i, n .one-each) in
+      omega (arith, n .below (byte b 0) numbered)
 
-  reads : moveOf b ≡ moveAt m v
-  reads = ap moveOf e ∙ indexes-body i v present .read
-
-  machine : w ≡ moveAt m v .machine
-  unfolding moveOf
-  machine = f ∙ ap (λ u. u .machine) reads
-
-  -- the move's machine has a number
-  pub turn-numbered : w < length numbers
-  turn-numbered =
-      omega (arith, machine, indexes-valid i .moves-valid v present .present, indexes-machines i, n .one-each)
-
-  module _ {k : ℕ} (q : k ≡ getD numbers w 0) where
-    pub turn-group : k < 32
-    turn-group = omega (arith, n .below w turn-numbered)
-
-    pub turn-named : {u t : ℕ} {counted r : List ℕ} → NamedUpto m numbers counted v r
-        → OutsideNamed numbers (moveOf b) k (getD counted v 0) u → t ≡ union (getD r k 0) u → t < 2 ^ 64
-        → NamedUpto m numbers counted (v + 1) (set r k t)
-    turn-named {u} {counted = counted} r o d fits =
-        named-next m numbers _ r turn-group (q ∙ ap (groupOf numbers) machine)
-        (subst (λ move. OutsideNamed numbers move k (getD counted v 0) u) reads o) d fits
+  pub turn-named : {u t : ℕ} {counted r : List ℕ} → NamedUpto m numbers counted v r
+      → OutsideNamed numbers (moveOf b) g (getD counted v 0) u → t ≡ union (getD r k 0) u → t < 2 ^ 64
+      → NamedUpto m numbers counted (v + 1) (set r k t)
+  turn-named {u} {counted = counted} r o d fits =
+      let named : OutsideNamed numbers (moveAt m v) k (getD counted v 0) u = rw (q, ← turn-move i h e) o in
+      named-next m numbers _ r turn-group (q ∙ f ∙ ap (groupOf numbers) (turn-machine i h e)) named d fits
 
 -- After the last move
 

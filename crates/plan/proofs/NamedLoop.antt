@@ -1,9 +1,9 @@
 -- The loop over a sheet's moves that gathers, for each group, the set of the other groups that its moves name.
 -- Assumes nothing.
 use Prim.Native.Nat.{ℕ, _+_, _^_, _≤_, _<_}
-use mathlib.Core.Path.{_≡_, refl, sym, ap, _∙_}
-use mathlib.Core.List.{List, [], _∷_, Memᴰ·cast}
-use mathlib.Core.Bool.{Bool, true, false, not, _&&_, _||_, or-false}
+use mathlib.Core.Path.{_≡_, refl, sym, _∙_}
+use mathlib.Core.List.{List, Memᴰ·cast}
+use mathlib.Core.Bool.{Bool, true, false, not, _&&_}
 use native.Mathlib.Nat.{le-trans}
 use native.Mathlib.Numerals.{add-one}
 use native.Mathlib.Omega.{arith}
@@ -16,11 +16,13 @@ use Rattle.common.specs.Bits.{bit}
 use Rattle.common.specs.Lists.{upTo, any}
 use Rattle.common.proofs.Bits.{bit-past}
 use Rattle.common.proofs.Bools.{by-cases, bool-ext, and-intro, and-left, and-right, not-of-false}
-use Rattle.common.proofs.Lists.{any-intro, any-some, any-fails, any-append, filter-mem, filter-from, filter-holds}
+use Rattle.common.proofs.Lists.{any-intro, any-some, any-fails, filter-mem, filter-from, filter-holds}
 use Rattle.common.proofs.Members.{upTo-mem, upTo-below}
 use Rattle.common.proofs.Pad.{getD-zeros}
+use Rattle.common.proofs.Snoc.{any-snoc}
 use Rattle.sets.specs.Sets.{union}
-use Rattle.sets.proofs.Laws.{bit-none, bit-union}
+use Rattle.sets.proofs.Laws.{bit-none}
+use Rattle.sets.proofs.Joined.{bit-joined}
 use Rattle.sheet.specs.Model.{Model, machineCount, moveCount, moveAt}
 use Rattle.sheet.specs.Valid.{Valid}
 use Rattle.plan.specs.Groups.{Grouping, groupOf, groupCount, movesOf, namesGroup, namedOutside}
@@ -52,25 +54,16 @@ module _ (m : Model) (groups : Grouping) (counted : List ℕ) where
 
   -- one more move
   module _ {v : ℕ} {r : List ℕ} (n : NamedUpto v r) where
-    any-next : (k a : ℕ) {b : Bool} → b ≡ (any (namesBy k a) (upTo v) || namesBy k a v)
-        → b ≡ any (namesBy k a) (upTo (v + 1))
-    unfolding any upTo
-    any-next k a h =
-        rw add-one
-        (h ∙ ap (_||_ (any (namesBy k a) (upTo v))) (sym (or-false (namesBy k a v)))
-        ∙ sym (any-append (namesBy k a) (upTo v) (v ∷ [])))
-
     module _ {own x t : ℕ} (h : own < 32) (e : own ≡ groupOf groups (moveAt m v .machine))
         (names : OutsideNamed groups (moveAt m v) own (getD counted v 0) x) (q : t ≡ union (getD r own 0) x) where
-      here : (a : ℕ) → a < 64 → bit t a ≡ any (namesBy own a) (upTo (v + 1))
+      joins : (k a : ℕ) → a < 64 → (eqb own k && bit x a) ≡ namesBy k a v
       unfolding namesBy
-      here a b = any-next own a (rw (q, bit-union, n .bits own a h b, names .bits a b, ← e, eq-eqb own own refl))
-
-      other : (k a : ℕ) → k < 32 → a < 64 → (k ≡ own → ⊥) → bit (getD r k 0) a ≡ any (namesBy k a) (upTo (v + 1))
-      unfolding namesBy
-      other k a l b d = any-next k a (rw (n .bits k a l b, ← e, ne-eqb own k (λ z. d (sym z))) (sym (or-false _)))
+      joins k a b =
+          rw (← e, names .bits a b)
+          (by-cases (eqb own k) (λ y. rw (y, eqb-true own k y)) (λ f. rw f))
 
       pub named-next : t < 2 ^ 64 → NamedUpto (v + 1) (set r own t)
+      unfolding upTo
       named-next fits =
           let inside : own < length r = omega (arith, n .long) in
           record {
@@ -80,9 +73,7 @@ module _ (m : Model) (groups : Grouping) (counted : List ℕ) where
                 (λ y. rw (eqb-true k own y, getD-set-same r own t 0 inside) fits)
                 (λ f. rw (getD-set-other r own k t 0 (eqb-false k own f)) (n .fits k));
             bits = λ k a l b.
-                by-cases (eqb k own)
-                (λ y. rw (eqb-true k own y, getD-set-same r own t 0 inside) (here a b))
-                (λ f. rw (getD-set-other r own k t 0 (eqb-false k own f)) (other k a l b (eqb-false k own f)));
+                rw (q, bit-joined r own x k a inside, n .bits k a l b, joins k a b, add-one, any-snoc);
           }
 
   -- What the moves name altogether

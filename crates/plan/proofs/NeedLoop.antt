@@ -1,15 +1,16 @@
 -- The loop over the needs that a move's body writes: it puts f of each need's machine into a set.
 -- Assumes nothing.
 use Prim.Native.Nat.{ℕ, suc, _+_, _-_, _*_, _/_, _≤_, _<_}
-use mathlib.Core.Path.{_≡_, refl, sym, ap, _∙_}
+use mathlib.Core.Path.{_≡_, refl, sym, _∙_}
 use mathlib.Core.List.{List}
-use mathlib.Core.Bool.{_||_, or-false}
+use mathlib.Core.Bool.{_||_}
 use native.Mathlib.Omega.{arith}
 use lib.Dec.{eqb}
 use lib.ListN.{length}
 use Rattle.common.specs.Bits.{bit}
 use Rattle.common.specs.Lists.{upTo, any}
-use Rattle.common.proofs.Lists.{any-append, any-map}
+use Rattle.common.proofs.Lists.{any-map}
+use Rattle.common.proofs.Snoc.{any-snoc}
 use Rattle.sets.proofs.Laws.{bit-none}
 use Rattle.sheet.specs.Record.{byte}
 use Rattle.sheet.specs.Model.{moveOf}
@@ -34,9 +35,7 @@ module _ (f : ℕ → ℕ) (body : List ℕ) where
         passed = suc (k .passed);
         place = omega (arith, k .place);
         within = omega (arith, k .place);
-        bits = λ j l.
-            bits j l ∙ rw (k .bits j l, e, k .place, any-append)
-            (ap (_||_ (any (λ n. eqb (f (byte body (4 + 2 * n))) j) (upTo (k .passed)))) (sym (or-false _)));
+        bits = λ j l. bits j l ∙ rw (k .bits j l, e, k .place, any-snoc);
       }
 
   pub put-end : {r at : ℕ} → PutUpto f body r at → length body ≤ at + 1

@@ -1,37 +1,40 @@
 -- The loop of `needed`: after v moves the sets hold the needs of those moves, and in the end the graph of needs.
 -- Assumes nothing.
 use Prim.Native.Nat.{ℕ, _+_, _-_, _^_, _≤_, _<_}
-use mathlib.Core.Path.{_≡_, refl, sym, ap, subst, _∙_}
+use mathlib.Core.Path.{_≡_, refl, sym, subst, _∙_}
 use mathlib.Core.List.{List, List·Memᴰ}
-use mathlib.Core.Bool.{Bool, true, _&&_, _||_, or-false}
+use mathlib.Core.Bool.{Bool, true, _&&_}
 use native.Mathlib.Numerals.{add-one}
 use native.Mathlib.Omega.{arith}
-use borrow.Author.Tests.{eqb-true, eqb-false, eq-eqb}
+use borrow.Author.Tests.{eqb-true, eq-eqb}
 use lib.Dec.{eqb}
 use lib.ListN.{length, getD, set, take, replicate, length-set}
-use lib.Seq.{getD-set-same, getD-set-other, take-suc, take-all}
+use lib.Seq.{take-suc, take-all}
 use Rattle.common.specs.Bits.{bit}
 use Rattle.common.specs.Lists.{any}
 use Rattle.common.specs.Graph.{successors}
 use Rattle.common.proofs.Bits.{bit-below, small-beyond}
-use Rattle.common.proofs.Bools.{by-cases, bool-ext, and-left, and-right}
-use Rattle.common.proofs.Lists.{any-intro, any-some, any-append}
+use Rattle.common.proofs.Bools.{bool-ext, and-left, and-right}
+use Rattle.common.proofs.Lists.{any-intro, any-some}
 use Rattle.common.proofs.Members.{mem-getD}
 use Rattle.common.proofs.Pad.{getD-zeros}
+use Rattle.common.proofs.Snoc.{any-snoc}
 use Rattle.sets.specs.Sets.{union}
-use Rattle.sets.proofs.Laws.{bit-none, bit-union}
+use Rattle.sets.proofs.Laws.{bit-none}
+use Rattle.sets.proofs.Joined.{bit-joined}
 use Rattle.search.specs.Search.{Holds}
 use Rattle.sheet.specs.declared.index.Sheet.{Sheet}
 use Rattle.sheet.specs.Record.{byte, bodyAt}
 use Rattle.sheet.specs.Model.{Move, Model, machineCount, moveCount, moveAt, noMove, moveOf}
 use Rattle.sheet.specs.Valid.{Valid}
 use Rattle.sheet.specs.Index.{Indexes}
-use Rattle.sheet.proofs.Indexed.{BodyStands, indexes-valid, indexes-moves, indexes-body}
+use Rattle.sheet.proofs.Indexed.{indexes-valid}
 use Rattle.plan.specs.Needs.{names, needs, needGraph}
 use Rattle.plan.specs.MachineSets.{NamedIn}
 use Rattle.plan.proofs.Named.{move-valid, guard-valid}
 use Rattle.plan.proofs.Words.{needs-means}
 use Rattle.plan.proofs.Needs.{length-needGraph, need-successor, successor-need}
+use Rattle.plan.proofs.MoveTurns.{turn-present, turn-move, turn-machine, turn-machine-below}
 
 -- move v is one of machine i, and names j
 abbrev needBy : ℕ → ℕ → Move → Bool
@@ -53,16 +56,18 @@ module _ (m : Model) {v k t : ℕ} (u : ℕ) {next : List ℕ} where
   reads-next r h small e named d =
       record {
         long = length-set next k t ∙ r .long;
-        bits = λ i j. new i j ∙ rw (add-one, take-suc (m .moves) v noMove h, any-append, or-false, ← e, r .bits i j);
+        bits = λ i j.
+            rw (
+              d,
+              bit-joined next k u i j (omega (arith, r .long)),
+              named j,
+              r .bits i j,
+              add-one,
+              take-suc (m .moves) v noMove h,
+              any-snoc,
+              ← e,
+            );
       }
-    where
-      new : (i j : ℕ) → bit (getD (set next k t) i 0) j ≡ (bit (getD next i 0) j || (eqb k i && names (moveAt m v) j))
-      new i j =
-          by-cases (eqb k i)
-          (λ y.
-          let q : k ≡ i = eqb-true k i y in
-          rw (y, ← q, getD-set-same next k t 0 (omega (arith, r .long)), d, bit-union, named j))
-          (λ f. rw (f, getD-set-other next k i t 0 (λ q. eqb-false k i f (sym q))) (sym (or-false _)))
 
 -- In a valid sheet, needs are between its machines
 
@@ -109,38 +114,13 @@ module _ {m : Model} (valid : Valid m) where
 
 -- One turn, by what its calls ensure
 
-module _ {s : List ℕ} {x : Sheet} {m : Model} (i : Indexes s x m) {v : ℕ} (h : v < x .moves) where
-  present : v < moveCount m
-  present = omega (arith, indexes-moves i)
+module _ {s : List ℕ} {x : Sheet} {m : Model} (i : Indexes s x m) {v : ℕ} (h : v < x .moves)
+    {b : List ℕ} (e : b ≡ bodyAt s (getD (x .bodies) v 0 - 4)) {k : ℕ} (f : k ≡ byte b 0) where
+  pub turn-fits : k < 64
+  turn-fits = omega (arith, turn-machine-below i h e, indexes-valid i .few-machines)
 
-  stands : BodyStands s (getD (x .bodies) v 0) (moveAt m v)
-  stands = indexes-body i v present
-
-  pub turn-place : v < 250
-  turn-place = omega (arith, present, indexes-valid i .few-moves)
-
-  pub turn-behind : 4 ≤ getD (x .bodies) v 0
-  turn-behind = stands .behind
-
-  module _ {b : List ℕ} (e : b ≡ bodyAt s (getD (x .bodies) v 0 - 4)) where
-    pub turn-long : 0 < length b
-    turn-long = rw e (omega (arith, stands .long))
-
-    reads : moveOf b ≡ moveAt m v
-    reads = ap moveOf e ∙ stands .read
-
-    module _ {k : ℕ} (f : k ≡ byte b 0) where
-      machine : k ≡ moveAt m v .machine
-      unfolding moveOf
-      machine = f ∙ ap (λ w. w .machine) reads
-
-      pub turn-machine : k < 64
-      turn-machine =
-          let valid = indexes-valid i in
-          omega (arith, machine, valid .moves-valid v present .present, valid .few-machines)
-
-      pub turn-reads : {u t : ℕ} {next : List ℕ} → NeedsRead m v next → NamedIn (moveOf b) u → u < 2 ^ 64
-          → t ≡ union (getD next k 0) u → NeedsRead m (v + 1) (set next k t)
-      turn-reads {u} r n l =
-          reads-next m u r present turn-machine machine
-          (named-bits (indexes-valid i) v present (subst (λ w. NamedIn w u) reads n) l)
+  pub turn-reads : {u t : ℕ} {next : List ℕ} → NeedsRead m v next → NamedIn (moveOf b) u → u < 2 ^ 64
+      → t ≡ union (getD next k 0) u → NeedsRead m (v + 1) (set next k t)
+  turn-reads {u} r n l =
+      reads-next m u r (turn-present i h) turn-fits (f ∙ turn-machine i h e)
+      (named-bits (indexes-valid i) v (turn-present i h) (subst (λ w. NamedIn w u) (turn-move i h e) n) l)

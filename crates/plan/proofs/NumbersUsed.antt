@@ -4,7 +4,7 @@
 use Prim.Native.Nat.{ℕ, _+_, _^_, _≤_, _<_, zero-le}
 use mathlib.Core.Path.{_≡_, sym, ap, _∙_}
 use mathlib.Core.List.{List, List·Memᴰ, Memᴰ·cast}
-use mathlib.Core.Bool.{true, false, _||_, or-false}
+use mathlib.Core.Bool.{true, false, _||_}
 use native.Mathlib.Numerals.{add-one}
 use native.Mathlib.Omega.{arith}
 use borrow.Author.Tests.{eqb-true, eq-eqb, ne-eqb, lt-ltb, ltb-false, ltb-true}
@@ -15,11 +15,12 @@ use Rattle.common.specs.Bits.{bit}
 use Rattle.common.specs.Lists.{upTo, any}
 use Rattle.common.proofs.Bools.{by-cases, false-of-not-true, bool-ext}
 use Rattle.common.proofs.Least.{eqb-swap}
-use Rattle.common.proofs.Lists.{all-at, all-intro, any-some, any-fails, any-append, covers-length}
+use Rattle.common.proofs.Lists.{all-at, all-intro, any-some, any-fails, covers-length}
 use Rattle.common.proofs.Members.{mem-index, upTo-mem, upTo-below}
+use Rattle.common.proofs.Snoc.{any-snoc}
 use Rattle.sets.specs.Sets.{below}
 use Rattle.sets.proofs.Digits.{same-bits}
-use Rattle.sets.proofs.Laws.{bit-none, bit-below}
+use Rattle.sets.proofs.Laws.{bit-none, bit-first}
 use Rattle.plan.specs.Groups.{Grouping, groupCount}
 use Rattle.plan.specs.Reading.{gapless}
 use Rattle.plan.specs.Outline.{Used}
@@ -43,8 +44,8 @@ module _ (numbers : List ℕ) where
       record {
         within = omega arith;
         bits = λ k l.
-            bits k l ∙ rw (u .bits k l, e, add-one, take-suc numbers i 0 h, any-append)
-            (ap (_||_ (any (eqb k) (take i numbers))) (eqb-swap _ k ∙ sym (or-false _)));
+            bits k l ∙ rw (u .bits k l, e, add-one, take-suc numbers i 0 h, any-snoc)
+            (ap (_||_ (any (eqb k) (take i numbers))) (eqb-swap _ k));
       }
 
   pub used-end : {r i : ℕ} → UsedUpto numbers r i → length numbers ≤ i → Used numbers r
@@ -66,14 +67,14 @@ module _ (groups : Grouping) where
   pub gapless-fails : {n : ℕ} → length groups ≤ 32 → n ≡ groupCount groups → 32 < n → false ≡ gapless groups
   gapless-fails few e h = sym (false-of-not-true (λ t. omega (arith, gapless-count t)))
 
-  number-below : {k : ℕ} → List·Memᴰ k groups → k < groupCount groups
-  number-below m =
+  occurring-below : {k : ℕ} → List·Memᴰ k groups → k < groupCount groups
+  occurring-below m =
       let r = mem-index 0 m in
       omega (arith, group-below-count groups (r .0) (r .1), r .2)
 
   -- a number from the count on does not occur
   none-above : (k : ℕ) → groupCount groups ≤ k → any (eqb k) groups ≡ false
-  none-above k h = any-fails (eqb k) groups (λ x m. ne-eqb k x (λ e. omega (arith, number-below m)))
+  none-above k h = any-fails (eqb k) groups (λ x m. ne-eqb k x (λ e. omega (arith, occurring-below m)))
 
   pub gapless-set : {n s t : ℕ} → n ≡ groupCount groups → n ≤ 32 → Used groups s → s < 2 ^ 64 → t ≡ below n → t < 2 ^ 64
       → eqb s t ≡ gapless groups
@@ -84,10 +85,10 @@ module _ (groups : Grouping) where
       let q : s ≡ t = eqb-true s t same in
       all-intro _ (upTo (groupCount groups)) (λ k m.
       let l = upTo-below (groupCount groups) m in
-      sym (used .bits k (omega arith)) ∙ rw (q, et, bit-below) (lt-ltb k n (omega arith))))
+      sym (used .bits k (omega arith)) ∙ rw (q, et, bit-first) (lt-ltb k n (omega arith))))
       (λ g.
       eq-eqb s t (same-bits 64 hs ht (λ i h.
-      used .bits i h ∙ rw (et, bit-below)
+      used .bits i h ∙ rw (et, bit-first)
       (by-cases (ltb i n)
       (λ l. rw l (all-at _ g (upTo-mem (omega (arith, ltb-true i n l)))))
       (λ f. rw f (none-above i (omega (arith, ltb-false i n f))))))))

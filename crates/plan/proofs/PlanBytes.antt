@@ -22,7 +22,7 @@ use Rattle.plan.specs.Bound.{planBound}
 use Rattle.plan.specs.Bytes.{fourBytes, tableIn, bytesOf}
 use Rattle.plan.specs.Planning.{ownPlan}
 use Rattle.plan.specs.Promised.{SmallGroups}
-use Rattle.plan.proofs.Groups.{number-small}
+use Rattle.plan.proofs.Groups.{group-below-machines}
 use Rattle.plan.proofs.Routes.{allRoutes}
 use Rattle.plan.proofs.Usable.{own-ordered}
 use Rattle.plan.proofs.EntryBytes.{entry-bytes}
@@ -36,7 +36,7 @@ module _ {m : Model} (valid : Valid m) (small : SmallGroups m (groupsOf m)) wher
   groups-bytes =
       all-intro isByte (groupsOf m) (λ x l.
       let (i, h, e) = mem-index 0 l in
-      let b = number-small m i (rw (own-ordered valid .all-machines) at h) in
+      let b = group-below-machines m i (rw (own-ordered valid .all-machines) at h) in
       lt-ltb x 256 (omega (arith, valid .few-machines)))
 
   table-bytes : (k : ℕ) → k < groupCount (groupsOf m)

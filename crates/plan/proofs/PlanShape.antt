@@ -24,9 +24,9 @@ use Rattle.sheet.specs.Parse.{Parsed, parse}
 use Rattle.sheet.specs.Index.{indexOf, Indexes}
 use Rattle.sheet.proofs.Indexed.{indexes-valid, indexes-machines}
 use Rattle.plan.specs.declared.partition.Groups.{Groups}
-use Rattle.plan.specs.declared.reading.Outline.{Outline}
-use Rattle.plan.specs.Groups.{Grouping, groupCount}
-use Rattle.plan.specs.Modes.{size}
+use Rattle.plan.specs.declared.opening.Outline.{Outline}
+use Rattle.plan.specs.Groups.{groupCount}
+use Rattle.plan.specs.Promised.{SmallGroups}
 use Rattle.plan.specs.Sizes.{firstLarge}
 use Rattle.plan.specs.Reading.{groupsIn, hasRecord, gapless, needsFirst, fitsRecords, wellShaped}
 use Rattle.plan.specs.Partition.{Numbers, Partitioned}
@@ -53,10 +53,6 @@ shape-refused m plan wrong e =
 -- a test that fails refuses the plan
 test-fails : (m : Model) (plan : List ℕ) → (ShapeTests m plan → ⊥) → wellShaped m plan ≡ false
 test-fails m plan fails = false-of-not-true (λ t. fails (shape-tests m plan .0 t))
-
--- no group has more than 64 modes
-abbrev pub SmallSizes : Model → Grouping → Type 0
-SmallSizes m groups = (k : ℕ) → k < groupCount groups → size m groups k ≤ 64
 
 -- what is known of a plan once its numbers have passed
 pub record Numbered (m : Model) (plan numbers : List ℕ) : Type 0 where
@@ -120,7 +116,7 @@ module _ {m : Model} {plan numbers : List ℕ} (n : Numbered m plan numbers) {g 
         ∙ some-large m (groupsIn m plan) (n .few) (groups-are .count) (groups-are .sizes) first h)
         (none-large m (groupsIn m plan) (t .small)))
 
-    pub sizes-right : g .count ≤ k → SmallSizes m (groupsIn m plan)
+    pub sizes-right : g .count ≤ k → SmallGroups m (groupsIn m plan)
     sizes-right none = small m (groupsIn m plan) (n .few) (groups-are .count) (groups-are .sizes) first none
 
   module _ (valid : Valid m) {b : Bool} (lower : b ≡ lowerNamed (g .named) (g .count)) where
@@ -136,7 +132,7 @@ module _ {m : Model} {plan numbers : List ℕ} (n : Numbered m plan numbers) {g 
     needs-right f = sym needs-judged ∙ not-false b f
 
   -- the places of the tables, and the records there
-  module _ (sizes : SmallSizes m (groupsIn m plan)) {machines : ℕ} (all : machines ≡ machineCount m) {starts : List ℕ}
+  module _ (sizes : SmallGroups m (groupsIn m plan)) {machines : ℕ} (all : machines ≡ machineCount m) {starts : List ℕ}
       (begin : StartsAt (g .sizes) machines (g .count) starts) where
     places : StartsAt (g .sizes) machines (groupCount (groupsIn m plan)) starts
     places = rw (groups-are .count) at begin

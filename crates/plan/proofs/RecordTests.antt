@@ -50,8 +50,8 @@ shown-length s at k n t =
 
 -- the numbers of a plan, where their record passes
 module _ (plan : List ℕ) (n : ℕ) {b : Bool} (e : b ≡ hasRecord plan 0 16 n) where
-  pub numbers-few : {body : List ℕ} → b ≡ true → body ≡ bodyAt plan 0 → n ≤ 32 → length body ≤ 32
-  numbers-few t q few = rw q (omega (arith, shown-length plan 0 16 n (sym e ∙ t)))
+  pub body-few : {body : List ℕ} → b ≡ true → body ≡ bodyAt plan 0 → n ≤ 32 → length body ≤ 32
+  body-few t q few = rw q (omega (arith, shown-length plan 0 16 n (sym e ∙ t)))
 
   pub numbers-judged : {g : Bool} {body : List ℕ} → b ≡ true → body ≡ bodyAt plan 0 → g ≡ gapless body
       → g ≡ (hasRecord plan 0 16 n && gapless (part plan 4 n))

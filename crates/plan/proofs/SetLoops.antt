@@ -1,59 +1,22 @@
--- The loops that build sets of machines: those that a body names, those that reach one another, those outside a group.
+-- The loops that build sets of machines: those that reach one another, those outside a group; and the next group ready.
 -- Assumes nothing.
-use Prim.Native.Nat.{ℕ, suc, _+_, _-_, _*_, _/_, _^_, _≤_, _<_}
-use mathlib.Core.Path.{_≡_, refl, sym, ap, _∙_}
+use Prim.Native.Nat.{ℕ, _+_, _^_, _≤_, _<_}
+use mathlib.Core.Path.{_≡_, sym, _∙_}
 use mathlib.Core.List.{List}
 use mathlib.Core.Bool.{Bool, true, false, _&&_, _||_, and-true, and-false, or-false}
 use native.Mathlib.Omega.{arith}
 use borrow.Author.Count.{below-none, below-more}
 use borrow.Author.Tests.{eqb-true, lt-ltb, le-ltb}
 use lib.Dec.{eqb}
-use lib.ListN.{length, getD}
+use lib.ListN.{getD}
 use Rattle.common.specs.Bits.{bit}
-use Rattle.common.specs.Lists.{upTo, any}
 use Rattle.common.proofs.Bools.{by-cases}
-use Rattle.common.proofs.Lists.{any-append, any-map}
 use Rattle.common.proofs.Search.{find-upTo-is, find-upTo-none}
-use Rattle.sets.specs.Sets.{single, less, least}
-use Rattle.sets.proofs.Laws.{bit-none, bit-single, bit-less}
+use Rattle.sets.specs.Sets.{alone, less, least}
+use Rattle.sets.proofs.Laws.{bit-none, bit-alone, bit-less}
 use Rattle.sets.proofs.Members.{least-member, taken-fits}
 use Rattle.search.specs.Search.{Union}
-use Rattle.sheet.specs.Record.{byte}
-use Rattle.sheet.specs.Model.{moveOf}
-use Rattle.plan.specs.Needs.{names}
-use Rattle.plan.specs.MachineSets.{NamedIn, Mutual, Outside, readyBy, nextGroup}
-
--- `named`: the machines of the needs before the place at
-
-pub record Names (body : List ℕ) (r at : ℕ) : Type 0 where
-  pub passed : ℕ
-  pub place : at ≡ 4 + 2 * passed
-  pub within : passed ≤ (length body - 4) / 2
-  pub bits : (j : ℕ) → j < 64 → bit r j ≡ any (λ n. eqb (byte body (4 + 2 * n)) j) (upTo passed)
-
-module _ (body : List ℕ) where
-  pub names-none : Names body 0 4
-  unfolding upTo any
-  names-none = record { passed = 0; place = refl; within = omega arith; bits = λ j h. bit-none j }
-
-  pub names-next : {r at w t : ℕ} → Names body r at → at + 1 < length body → w ≡ byte body at
-      → ((j : ℕ) → j < 64 → bit t j ≡ (bit r j || eqb w j)) → Names body t (at + 2)
-  unfolding upTo any
-  names-next k h e bits =
-      record {
-        passed = suc (k .passed);
-        place = omega (arith, k .place);
-        within = omega (arith, k .place);
-        bits = λ j l.
-            bits j l ∙ rw (k .bits j l, e, k .place, any-append)
-            (ap (_||_ (any (λ n. eqb (byte body (4 + 2 * n)) j) (upTo (k .passed)))) (sym (or-false _)));
-      }
-
-  pub names-end : {r at : ℕ} → Names body r at → length body ≤ at + 1 → NamedIn (moveOf body) r
-  unfolding names moveOf
-  names-end k h =
-      let e : k .passed ≡ (length body - 4) / 2 = omega (arith, k .place, k .within) in
-      record { bits = λ j l. k .bits j l ∙ rw e (sym (any-map _ _ _)) }
+use Rattle.plan.specs.MachineSets.{Mutual, Outside, readyBy, nextGroup}
 
 -- `mutual`: the machines taken so far, with those to come
 
@@ -68,7 +31,7 @@ module _ (reach : List ℕ) (i : ℕ) where
 
   pub meets-next : {r rest k t u : ℕ} {wanted : Bool} → Meets reach i r rest → (rest ≡ 0 → ⊥) → k ≡ least rest
       → wanted ≡ bit (getD reach k 0) i → ((j : ℕ) → bit t j ≡ (bit r j || (wanted && eqb k j)))
-      → u ≡ less rest (single k) → Meets reach i t u
+      → u ≡ less rest (alone k) → Meets reach i t u
   meets-next {r} {rest} {k} {t} {u} m z e w bits d =
       record {
         fits = taken-fits (m .fits) z e d;
@@ -82,8 +45,8 @@ module _ (reach : List ℕ) (i : ℕ) where
           (λ y.
           let q : k ≡ j = eqb-true k j y in
           let on : bit rest j ≡ true = rw (← q, e) (least-member (m .fits) z) in
-          rw (bits j, d, bit-less, bit-single, y, w, q, and-true, and-false, or-false, on))
-          (λ n. rw (bits j, d, bit-less, bit-single, n, and-false, or-false, and-true))
+          rw (bits j, d, bit-less, bit-alone, y, w, q, and-true, and-false, or-false, on))
+          (λ n. rw (bits j, d, bit-less, bit-alone, n, and-false, or-false, and-true))
 
   pub meets-end : {r rest : ℕ} → Meets reach i r rest → rest ≡ 0 → Mutual reach i r
   meets-end {r} m z = record { bits = λ j. sym (or-false (bit r j)) ∙ rw (z, bit-none) at (m .bits j) }

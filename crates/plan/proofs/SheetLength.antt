@@ -2,7 +2,7 @@
 -- tests 1 to 10, with a place that is small.
 -- Assumes nothing.
 use Prim.Native.Nat.{ℕ, _≤_}
-use mathlib.Core.Path.{_≡_, ap, _∙_}
+use mathlib.Core.Path.{_≡_, sym, ap, _∙_}
 use mathlib.Core.Logic.{⊎-elim}
 use mathlib.Core.List.{List}
 use native.Mathlib.Omega.{arith}
@@ -14,7 +14,7 @@ use Rattle.sheet.specs.declared.index.Sheet.{Sheet}
 use Rattle.sheet.specs.Model.{Model, machineCount}
 use Rattle.sheet.specs.Parse.{parse}
 use Rattle.sheet.specs.Index.{Indexes}
-use Rattle.sheet.proofs.Indexed.{indexes-valid, indexes-machines, indexes-modes, indexes-array}
+use Rattle.sheet.proofs.Indexed.{indexes-valid, indexes-machines, indexes-modes}
 use Rattle.sheet.proofs.Parsed.{parse-valid}
 use Rattle.sheet.proofs.Place.{refusal-near}
 use Rattle.plan.specs.Groups.{groupCount, groupsOf}
@@ -24,6 +24,7 @@ use Rattle.plan.specs.Measured.{lengthWith}
 use Rattle.plan.proofs.GroupLoops.{smallest-inside}
 use Rattle.plan.proofs.Groups.{group-below-machines}
 use Rattle.plan.proofs.Planning.{length-groupsOf}
+use Rattle.plan.proofs.SheetNumbers.{numbers-small}
 
 module _ {s : List ℕ} {x : Sheet} {m : Model} (i : Indexes s x m) where
   pub length-read : lengthReply s ≡ lengthWith m (groupsOf m)
@@ -40,14 +41,13 @@ module _ {s : List ℕ} {x : Sheet} {m : Model} (i : Indexes s x m) where
 
     pub small-numbers : SmallNumbers (take (x .machines) numbers) (x .modes)
     small-numbers =
-        let v = indexes-valid i in
-        record {
-          few = omega (arith, numbers-length, v .few-machines);
+        numbers-small i
+        (record {
+          one-each = numbers-length ∙ sym (indexes-machines i);
           below = λ j h.
               let b = group-below-machines m j (omega (arith, numbers-length)) in
-              omega (arith, ap (λ l. getD l j 0) numbers-are, v .few-machines);
-          counted = omega (arith, numbers-length, indexes-array i, v .few-machines);
-        }
+              omega (arith, ap (λ l. getD l j 0) numbers-are, indexes-valid i .few-machines);
+        })
 
     -- what is computed of the numbers is the length for the sheet's own
     pub own-length : {r : Reply ℕ}

@@ -2,9 +2,9 @@
 -- `tableAt` where no group is large. Then the tests of the records are those of the shape.
 -- Assumes nothing.
 use Prim.Native.Nat.{ℕ, _+_, _*_, _≤_, _<_, zero-le}
-use mathlib.Core.Path.{_≡_, refl, sym, ap, ap₂, _∙_}
+use mathlib.Core.Path.{_≡_, sym, ap, ap₂, _∙_}
 use mathlib.Core.List.{List, map, map-append}
-use mathlib.Core.Bool.{Bool, true, false, _&&_}
+use mathlib.Core.Bool.{_&&_, and-assoc}
 use native.Mathlib.Numerals.{add-one}
 use native.Mathlib.Omega.{arith}
 use lib.ListN.{getD, set, replicate}
@@ -15,14 +15,13 @@ use Rattle.common.proofs.Pad.{getD-pad, pad-nil}
 use Rattle.common.proofs.Sums.{sum-append}
 use Rattle.sheet.specs.Model.{Model, machineCount}
 use Rattle.plan.specs.Groups.{Grouping, groupCount}
-use Rattle.plan.specs.Modes.{size}
 use Rattle.plan.specs.Bytes.{tableLength, tableAt, planLength}
 use Rattle.plan.specs.Reading.{hasRecord, fitsRecords}
+use Rattle.plan.specs.Promised.{SmallGroups}
 use Rattle.plan.specs.Sizes.{cappedSizes}
 use Rattle.plan.specs.Outline.{tableBytes, startAt, StartsAt, tablesFit, endsAt}
 use Rattle.plan.proofs.ArrayLoops.{fills-map}
-use Rattle.plan.proofs.CappedSizes.{capped-small}
-use Rattle.plan.proofs.LengthLaws.{capped-at}
+use Rattle.plan.proofs.LengthLaws.{size-kept}
 
 module _ (sizes : List ℕ) (n : ℕ) where
   start-first : startAt sizes n 0 ≡ 4 + n
@@ -70,14 +69,10 @@ module _ (sizes : List ℕ) (n : ℕ) where
 
 -- Where no group is large
 
-module _ (m : Model) (groups : Grouping) (few : groupCount groups ≤ 32)
-    (small : (k : ℕ) → k < groupCount groups → size m groups k ≤ 64) where
-  size-kept : (k : ℕ) → k < groupCount groups → getD (cappedSizes m groups) k 0 ≡ size m groups k
-  size-kept k h = capped-at m groups few h ∙ capped-small _ (omega (arith, small k h))
-
+module _ (m : Model) (groups : Grouping) (few : groupCount groups ≤ 32) (small : SmallGroups m groups) where
   bytes-kept : (k : ℕ) → k < groupCount groups → tableBytes (getD (cappedSizes m groups) k 0) ≡ tableLength m groups k
   unfolding tableBytes tableLength
-  bytes-kept k h = rw (size-kept k h)
+  bytes-kept k h = rw (size-kept m groups few small k h)
 
   starts-kept : (k : ℕ) → k ≤ groupCount groups
       → startAt (cappedSizes m groups) (machineCount m) k ≡ tableAt m groups k
@@ -106,9 +101,4 @@ module _ (m : Model) (groups : Grouping) (few : groupCount groups ≤ 32)
           ≡ fitsRecords m groups plan
       unfolding endsAt fitsRecords planLength
       records-same =
-          rw (tables-same, starts-are (groupCount groups) (omega arith))
-          (regroup (all _ (upTo (groupCount groups))) _ _ _)
-        where
-          regroup : (t a b e : Bool) → t && (a && b && e) ≡ (t && a && b && e)
-          regroup true a b e = refl
-          regroup false a b e = refl
+          rw (tables-same, starts-are (groupCount groups) (omega arith)) (simp and-assoc)

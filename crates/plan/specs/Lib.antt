@@ -1,10 +1,14 @@
 pub mod Bound
 pub mod Bytes
+pub mod CostSets
 pub mod Groups
+pub mod Judged
 pub mod Laws
+pub mod Linked
 pub mod MachineSets
 pub mod Meaning
 pub mod Measured
+pub mod ModeSets
 pub mod Modes
 pub mod Needs
 pub mod Outline
@@ -17,3 +21,5 @@ pub mod Shape
 pub mod Sizes
 pub mod Table
 pub mod Usable
+pub mod UsableBy
+pub mod Written

@@ -8,7 +8,7 @@ use lib.Dec.{eqb, ltb}
 use Rattle.common.specs.Bits.{bit}
 use Rattle.common.specs.Lists.{upTo, any, find}
 use Rattle.common.specs.Graph.{Graph, distances}
-use Rattle.sets.specs.Sets.{less, members}
+use Rattle.sets.specs.Sets.{less, elements}
 use Rattle.search.specs.Search.{graphOf, Holds, Reached}
 use Rattle.sheet.specs.Model.{Move}
 use Rattle.plan.specs.Needs.{names}
@@ -31,7 +31,7 @@ pub record MutualSets (reach : List ℕ) (n : ℕ) (groups : List ℕ) : Type 0 
 
 -- s holds what the members of a group need, less the group
 pub record Outside (next : List ℕ) (group s : ℕ) : Type 0 where
-  pub bits : (j : ℕ) → bit s j ≡ (any (λ i. bit (getD next i 0) j) (members group) && not (bit group j))
+  pub bits : (j : ℕ) → bit s j ≡ (any (λ i. bit (getD next i 0) j) (elements group) && not (bit group j))
 
 pub record OutsideSets (next groups : List ℕ) (n : ℕ) (outside : List ℕ) : Type 0 where
   pub each : (i : ℕ) → i < n → Outside next (getD groups i 0) (getD outside i 0)

@@ -122,9 +122,9 @@ module _ (m : Model) (groups : Grouping) where
     pub sum-of-costs : bound ≡ sum (map cost (upTo (groupCount groups)))
 
 -- the modes of some machines as one number: the first machine's mode, and the rest's number times its mode count
-unfoldable pub written : Model → List ℕ → List ℕ → ℕ
-written m state [] = 0
-written m state (i ∷ is) = getD state i 0 + modeCount m i * written m state is
+unfoldable pub asOne : Model → List ℕ → List ℕ → ℕ
+asOne m state [] = 0
+asOne m state (i ∷ is) = getD state i 0 + modeCount m i * asOne m state is
 
 -- A group mode's number and its machines' modes translate both ways, within range.
 pub record ModesRight (m : Model) (groups : Grouping) (k : ℕ) : Type 0 where
@@ -133,7 +133,7 @@ pub record ModesRight (m : Model) (groups : Grouping) (k : ℕ) : Type 0 where
   pub members-rise : (n : ℕ) → suc n < length (members groups k)
       → getD (members groups k) n 0 < getD (members groups k) (suc n) 0
   -- smaller machines weigh less
-  pub number-is : (state : List ℕ) → modeNumber m groups k state ≡ written m state (members groups k)
+  pub number-is : (state : List ℕ) → modeNumber m groups k state ≡ asOne m state (members groups k)
   pub number-below : (state : List ℕ) → Fits m state → modeNumber m groups k state < size m groups k
   pub mode-below : (p i : ℕ) → Belongs m groups i k → modeIn m groups k p i < modeCount m i
   pub there-and-back : (state : List ℕ) (i : ℕ) → Fits m state → Belongs m groups i k

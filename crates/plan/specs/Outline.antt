@@ -16,7 +16,7 @@ use Rattle.sheet.specs.Refusal.{numberOf}
 use Rattle.sheet.specs.Record.{word}
 use Rattle.sheet.specs.Model.{Model}
 use Rattle.sheet.specs.Parse.{parse}
-use Rattle.plan.specs.declared.reading.Outline.{Outline}
+use Rattle.plan.specs.declared.opening.Outline.{Outline}
 use Rattle.plan.specs.Groups.{groupCount}
 use Rattle.plan.specs.Bytes.{tableAt}
 use Rattle.plan.specs.Reading.{groupsIn, hasRecord, wellShaped}

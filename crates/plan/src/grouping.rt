@@ -1,4 +1,5 @@
 // The groups of a sheet: sets of machines that need one another, numbered so that needs come first.
+use sheet::index::Machine;
 use sheet::index::Sheet;
 use sheet::record::body;
 use sheet::record::wide;
@@ -58,11 +59,12 @@ fn reached(next: &[u64], n: usize) -> [u64; 64]
     r
 }
 
-// The machines that machine i reaches and that reach it.
-fn mutual(reach: &[u64], i: usize) -> u64
-    requires { ⌜ (length (now reach) ≡ 64) × (i < 64) ⌝ }
-    ensures { λ r. ⌜ Mutual (now (reach .entry)) i r ⌝ }
+// The machines that a machine reaches and that reach it.
+fn mutual(reach: &[u64], m: Machine) -> u64
+    requires { ⌜ (length (now reach) ≡ 64) × (m .0 < 64) ⌝ }
+    ensures { λ r. ⌜ Mutual (now (reach .entry)) (m .0) r ⌝ }
 {
+    let i = wide(m.0);
     let mut r: u64 = 0;
     let mut rest = reach[i];
     while rest != 0 {
@@ -81,7 +83,7 @@ fn together(reach: &[u64], n: usize) -> [u64; 64]
     let mut r = [0u64; 64];
     let mut i: usize = 0;
     while i < n {
-        r[i] = mutual(reach, i);
+        r[i] = mutual(reach, Machine(i as u8));
         i += 1;
     }
     r
@@ -101,12 +103,12 @@ fn outside(next: &[u64], groups: &[u64], n: usize) -> [u64; 64]
     r
 }
 
-// Machine i has no number, and those that its group needs outside have one.
-fn ready(outside: u64, numbered: u64, i: usize) -> bool
-    requires { ⌜ i < 64 ⌝ }
-    ensures { λ r. ⌜ r ≡ readyBy outside numbered i ⌝ }
+// A machine has no number, and those that its group needs outside have one.
+fn ready(outside: u64, numbered: u64, m: Machine) -> bool
+    requires { ⌜ m .0 < 64 ⌝ }
+    ensures { λ r. ⌜ r ≡ readyBy outside numbered (m .0) ⌝ }
 {
-    !sets::has(numbered, i) && sets::minus(outside, numbered) == 0
+    !sets::has(numbered, wide(m.0)) && sets::minus(outside, numbered) == 0
 }
 
 // Of the groups that are ready for a number, the one with the smallest machine; empty if there is none.
@@ -116,7 +118,7 @@ fn next_group(groups: &[u64], outside: &[u64], numbered: u64, n: usize) -> u64
 {
     let mut i: usize = 0;
     while i < n {
-        if ready(outside[i], numbered, i) {
+        if ready(outside[i], numbered, Machine(i as u8)) {
             return groups[i];
         }
         i += 1;

@@ -1,7 +1,13 @@
 // The plan: groups of machines, routes within them, the bound, and the plan's bytes.
+pub mod bounding;
 pub mod grouping;
+pub mod judging;
 pub mod measure;
+pub mod opening;
 pub mod partition;
 pub mod promises;
 pub mod reading;
 pub mod sizing;
+pub mod standing;
+pub mod tabling;
+pub mod writing;

@@ -24,6 +24,9 @@ pub struct Plan;
 impl Plan {
     // Entries of all tables at most.
     pub const ENTRIES: usize = 16384;
+
+    // The bound at most.
+    pub const BOUND: u32 = 65535;
 }
 
 // The reply of the plan's length.

@@ -1,28 +1,17 @@
-// Reading a plan back, whoever wrote it: its shape, its groups, where its tables begin, an entry of a table, the bound.
-use crate::measure::first_large;
-use crate::partition::Groups;
+// Reading a plan back, whoever wrote it: whether its records fit, where its tables begin, an entry of a table, the bound.
 use crate::sizing::count;
-use sheet::index::Sheet;
 use sheet::record::Record;
 use sheet::record::body;
 use sheet::record::byte_at;
 use sheet::record::wide;
 use sheet::record::word_at;
-use sheet::refusal::Cause;
-use sheet::refusal::Verdict;
 ghost use mathlib.Core.Path.{_≡_};
-ghost use mathlib.Core.Bool.{true, _&&_};
+ghost use mathlib.Core.Bool.{_&&_};
 ghost use Prim.Native.Nat.{_≤_, _<_};
 ghost use lib.ListN.{length, getD};
-ghost use Rattle.common.specs.Reply.{given, refused};
 ghost use Rattle.sheet.specs.Record.{bodyAt, part};
-ghost use Rattle.sheet.specs.Model.{Model};
-ghost use Rattle.sheet.specs.Parse.{Parsed, parse};
-ghost use Rattle.sheet.specs.Index.{indexOf, Indexed, Indexes};
-ghost use Rattle.sheet.specs.Refusal.{numberOf};
-ghost use Rattle.plan.specs.Reading.{gapless, hasRecord, entryIn, wellShaped};
+ghost use Rattle.plan.specs.Reading.{gapless, hasRecord, entryIn};
 ghost use Rattle.plan.specs.Outline.{Used, lowerNamed, tableBytes, StartsAt, tablesFit, endsAt, boundAt};
-ghost use Rattle.plan.specs.Outline.{verdictSays, outlineReply, Outlined, ShapeJudged};
 
 // An entry of a table: a distance and a first move.
 pub struct Cell {
@@ -74,7 +63,7 @@ fn without_gaps(numbers: &[u8]) -> bool
 }
 
 // Whether a plan begins with the group numbers of n machines, at most 32, and they have no gaps.
-fn numbers_fit(plan: &[u8], n: usize) -> bool
+pub fn numbers_fit(plan: &[u8], n: usize) -> bool
     requires { ⌜ n ≤ 32 ⌝ }
     ensures { λ r. ⌜ r ≡ (hasRecord (now (plan .entry)) 0 16 n && gapless (part (now (plan .entry)) 4 n)) ⌝ }
 {
@@ -85,7 +74,7 @@ fn numbers_fit(plan: &[u8], n: usize) -> bool
 }
 
 // Whether no group names one above it.
-fn needs_come_first(named: &[u64], count: usize) -> bool
+pub fn needs_come_first(named: &[u64], count: usize) -> bool
     requires { ⌜ (count ≤ 32) × (count ≤ length (now named)) ⌝ }
     ensures { λ r. ⌜ r ≡ lowerNamed (now (named .entry)) count ⌝ }
 {
@@ -107,7 +96,7 @@ fn table_length(size: u8) -> usize
 }
 
 // Where each group's record begins, behind the numbers of n machines, and where the record behind the last.
-fn starts(sizes: &[u8], count: usize, n: usize) -> [u32; 33]
+pub fn starts(sizes: &[u8], count: usize, n: usize) -> [u32; 33]
     requires { ⌜ (count ≤ 32) × (count ≤ length (now sizes)) × (n ≤ 32) ⌝ }
     ensures { λ r. ⌜ StartsAt (now (sizes .entry)) n count r ⌝ }
 {
@@ -153,7 +142,7 @@ fn ends(plan: &[u8], at: usize) -> bool
 }
 
 // Whether the tables, the bound and the end stand where they should.
-fn records_fit(plan: &[u8], sizes: &[u8], starts: &[u32], count: usize) -> bool
+pub fn records_fit(plan: &[u8], sizes: &[u8], starts: &[u32], count: usize) -> bool
     requires { ⌜ (count ≤ length (now sizes)) × (count < length (now starts)) ⌝ }
     ensures { λ r. ⌜ r ≡ (tablesFit (now (plan .entry)) (now (sizes .entry)) (now (starts .entry)) count
         && endsAt (now (plan .entry)) (getD (now (starts .entry)) count 0)) ⌝ }
@@ -190,72 +179,4 @@ pub fn bound(plan: &[u8], at: usize) -> u64
     ensures { λ r. ⌜ r ≡ boundAt (now (plan .entry)) at ⌝ }
 {
     (word_at(plan, at + 4) + 65536 * word_at(plan, at + 6)) as u64
-}
-
-// What is kept of a sheet and of a plan for it: the verdict of 1 to 8 and of the shape (15), and where all of it passes,
-// the sheet's index, the groups that the plan numbers, and where each group's table begins.
-pub struct Outline {
-    pub verdict: Verdict,
-    pub sheet: Sheet,
-    pub groups: Groups,
-    pub starts: [u32; 33],
-}
-
-// The outline of a refusal: nothing is kept.
-fn refusal(cause: Cause, place: usize) -> Outline
-    ensures { λ r. ⌜ verdictSays (r .verdict) ≡ refused (numberOf cause) place ⌝ }
-{
-    Outline {
-        verdict: Verdict::Refused(cause, place),
-        sheet: Sheet::empty(),
-        groups: Groups::none(),
-        starts: [0; 33],
-    }
-}
-
-// Judges the shape of a plan for a sheet that was read.
-fn shape(file: &[u8], sheet: Sheet, plan: &[u8]) -> Outline
-    requires { ⌜ Indexed (now file) sheet ⌝ }
-    ensures { λ r. ⌜ ((m : Model) → Indexes (now (file .entry)) sheet m → ShapeJudged sheet m (now (plan .entry)) r) ⌝ }
-{
-    let n = sheet.machines;
-    if !numbers_fit(plan, n) {
-        return refusal(Cause::BadPlan, 0);
-    }
-    let groups = Groups::of(file, sheet, body(plan, 0));
-    let count = groups.count;
-    let sizes = groups.sizes;
-    let named = groups.named;
-    if first_large(&sizes[..], count) < count {
-        return refusal(Cause::BadPlan, 0);
-    }
-    if !needs_come_first(&named[..], count) {
-        return refusal(Cause::BadPlan, 0);
-    }
-    let places = starts(&sizes[..], count, n);
-    if !records_fit(plan, &sizes[..], &places[..], count) {
-        return refusal(Cause::BadPlan, 0);
-    }
-    Outline {
-        verdict: Verdict::Accepted,
-        sheet,
-        groups,
-        starts: places,
-    }
-}
-
-// Judges a sheet and a plan for it: 1 to 8, then the shape (15).
-pub fn open(file: &[u8], plan: &[u8]) -> Outline
-    ensures verdict { λ r. ⌜ verdictSays (r .verdict) ≡ outlineReply (now (file .entry)) (now (plan .entry)) ⌝ }
-    ensures kept { λ r. ⌜ ((d : Parsed) → parse (now (file .entry)) ≡ given d
-        → wellShaped (d .model) (now (plan .entry)) ≡ true
-        → Outlined (indexOf d) (d .model) (now (plan .entry)) r) ⌝ }
-{
-    let reading = sheet::scan::read(file);
-    let verdict = reading.verdict;
-    let Verdict::Refused(cause, place) = verdict else {
-        let sheet = reading.sheet;
-        return shape(file, sheet, plan);
-    };
-    refusal(cause, place)
 }

@@ -2,17 +2,19 @@
 -- Assumes nothing.
 use Prim.Native.Nat.{ℕ, zero, suc, _+_, _-_, _*_, _/_, _%_, _^_, _≤_, _<_, min, max}
 use mathlib.Core.Path.{_≡_, refl, sym, ap, ap₂, _∙_}
+use mathlib.Core.Logic.{_⊎_, inl, inr}
 use mathlib.Core.Bool.{Bool, true, false, not, _&&_, _||_}
 use native.Mathlib.Nat.{min-le-left, pow-suc, mul-one, mod-one, mul-assoc, add-zero, sub-zero, suc-sub-suc, one-mul}
 use native.Mathlib.Omega.{arith}
-use borrow.Author.Tests.{lt-ltb}
+use borrow.Author.Tests.{lt-ltb, eqb-true, not-true}
 use lib.Dec.{eqb, ltb, leb, eqb·zero-suc, eqb·suc-zero, eqb·suc-suc, leb·zero, leb·suc-zero, leb·suc-suc}
 use lib.Arith.{lt-one, mod-mul}
 use lib.Pow.{pow-pos, pow-lt, shr-shr, shl-exact}
 use lib.Bits.{bitAnd, bitOr, and-step, or-step, and-le-l, or-lt, or-disjoint}
 use Rattle.common.specs.Bits.{bit}
 use Rattle.common.proofs.Bits.{bit-past}
-use Rattle.sets.specs.Sets.{single, below, union, both, less, raised, lowered}
+use Rattle.common.proofs.Bools.{by-cases, and-intro, and-left, and-right, not-of-false}
+use Rattle.sets.specs.Sets.{alone, below, union, both, less, raised, lowered}
 use Rattle.sets.proofs.Digits.{num, digit-low, digit-high, bit-suc, bitwise, same-bits, mod-num, half-below}
 
 pub bit-none : (i : ℕ) → bit 0 i ≡ false
@@ -77,20 +79,20 @@ double n = omega (arith, pow-suc 2 n)
 double-ones : (n : ℕ) → 2 ^ suc n - 1 ≡ (2 ^ n - 1) * 2 + num true
 double-ones n = omega (arith, pow-suc 2 n, pow-pos n)
 
-pub bit-single : (i j : ℕ) → bit (single i) j ≡ eqb i j
-unfolding single bit
-bit-single zero zero = refl
-bit-single zero (suc j) = bit-suc 1 j ∙ bit-none j ∙ sym (eqb·zero-suc j)
-bit-single (suc i) zero = digit-low _ false (double i) ∙ sym (eqb·suc-zero i)
-bit-single (suc i) (suc j) =
-    digit-high _ false (double i) j ∙ bit-single i j ∙ sym (eqb·suc-suc i j)
+pub bit-alone : (i j : ℕ) → bit (alone i) j ≡ eqb i j
+unfolding alone bit
+bit-alone zero zero = refl
+bit-alone zero (suc j) = bit-suc 1 j ∙ bit-none j ∙ sym (eqb·zero-suc j)
+bit-alone (suc i) zero = digit-low _ false (double i) ∙ sym (eqb·suc-zero i)
+bit-alone (suc i) (suc j) =
+    digit-high _ false (double i) j ∙ bit-alone i j ∙ sym (eqb·suc-suc i j)
 
-pub bit-below : (n i : ℕ) → bit (below n) i ≡ ltb i n
+pub bit-first : (n i : ℕ) → bit (below n) i ≡ ltb i n
 unfolding below
-bit-below zero i = bit-none i ∙ sym (leb·suc-zero i)
-bit-below (suc n) zero = digit-low _ true (double-ones n) ∙ sym (lt-ltb 0 (suc n) (omega arith))
-bit-below (suc n) (suc i) =
-    digit-high _ true (double-ones n) i ∙ bit-below n i ∙ sym (leb·suc-suc (suc i) n)
+bit-first zero i = bit-none i ∙ sym (leb·suc-zero i)
+bit-first (suc n) zero = digit-low _ true (double-ones n) ∙ sym (lt-ltb 0 (suc n) (omega arith))
+bit-first (suc n) (suc i) =
+    digit-high _ true (double-ones n) i ∙ bit-first n i ∙ sym (leb·suc-suc (suc i) n)
 
 pub bit-lowered : (s k i : ℕ) → bit (lowered s k) i ≡ bit s (k + i)
 unfolding lowered bit
@@ -118,6 +120,22 @@ bit-times (suc k) s (suc i) = digit-high _ false (times-half k s) i ∙ bit-time
 pub bit-raised : (s k i : ℕ) → bit (raised s k) i ≡ (ltb i 64 && (leb k i && bit s (i - k)))
 unfolding raised
 bit-raised s k i = bit-mod 64 (s * 2 ^ k) i ∙ ap (_&&_ (ltb i 64)) (bit-times k s i)
+
+-- the members of what is left
+
+pub less-from : (a b i : ℕ) → bit (less a b) i ≡ true → bit a i ≡ true
+less-from a b i t = and-left _ _ (sym (bit-less a b i) ∙ t)
+
+pub less-not : (a b i : ℕ) → bit (less a b) i ≡ true → bit b i ≡ false
+less-not a b i t = not-true _ (and-right (bit a i) _ (sym (bit-less a b i) ∙ t))
+
+pub less-intro : (a b i : ℕ) → bit a i ≡ true → bit b i ≡ false → bit (less a b) i ≡ true
+less-intro a b i t f = bit-less a b i ∙ and-intro t (not-of-false f)
+
+-- a member is the one that is taken out, or it is left
+pub alone-or-less : (s i u : ℕ) → bit s u ≡ true → (i ≡ u) ⊎ (bit (less s (alone i)) u ≡ true)
+alone-or-less s i u t =
+    by-cases (eqb i u) (λ e. inl (eqb-true i u e)) (λ f. inr (less-intro s (alone i) u t (bit-alone i u ∙ f)))
 
 -- what the bits tell of the whole set
 
@@ -154,10 +172,10 @@ union-less k {b} a h =
     apart false q = refl
 
 -- what `1 << i` computes
-pub one-shifted : {i : ℕ} → i < 64 → 1 * 2 ^ i % 2 ^ 64 ≡ single i
-unfolding single
+pub one-shifted : {i : ℕ} → i < 64 → 1 * 2 ^ i % 2 ^ 64 ≡ alone i
+unfolding alone
 one-shifted {i} h = shl-exact 1 i 64 (omega arith) (omega arith) ∙ one-mul (2 ^ i)
 
-pub single-below : (k : ℕ) {i : ℕ} → i < k → single i < 2 ^ k
-unfolding single
-single-below k h = pow-lt h
+pub alone-below : (k : ℕ) {i : ℕ} → i < k → alone i < 2 ^ k
+unfolding alone
+alone-below k h = pow-lt h

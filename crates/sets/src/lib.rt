@@ -4,7 +4,7 @@ ghost use mathlib.Core.Bool.{_&&_, _||_};
 ghost use Prim.Native.Nat.{ℕ, _<_, _≤_};
 ghost use lib.Dec.{eqb};
 ghost use Rattle.common.specs.Bits.{bit};
-ghost use Rattle.sets.specs.Sets.{single, below, union, both, less, raised, lowered, least};
+ghost use Rattle.sets.specs.Sets.{alone, below, union, both, less, raised, lowered, least};
 
 pub fn none() -> u64
     ensures { λ r. ⌜ r ≡ 0 ⌝ }
@@ -14,7 +14,7 @@ pub fn none() -> u64
 
 pub fn one(i: usize) -> u64
     requires { ⌜ i < 64 ⌝ }
-    ensures { λ r. ⌜ r ≡ single i ⌝ }
+    ensures { λ r. ⌜ r ≡ alone i ⌝ }
 {
     1u64 << i
 }
@@ -56,7 +56,7 @@ pub fn minus(a: u64, b: u64) -> u64
 
 pub fn with(s: u64, i: usize) -> u64
     requires { ⌜ i < 64 ⌝ }
-    ensures { λ r. ⌜ r ≡ union s (single i) ⌝ }
+    ensures { λ r. ⌜ r ≡ union s (alone i) ⌝ }
 {
     join(s, one(i))
 }
@@ -84,7 +84,7 @@ pub fn put_if(s: u64, i: usize, wanted: bool) -> u64
 
 pub fn without(s: u64, i: usize) -> u64
     requires { ⌜ i < 64 ⌝ }
-    ensures { λ r. ⌜ r ≡ less s (single i) ⌝ }
+    ensures { λ r. ⌜ r ≡ less s (alone i) ⌝ }
 {
     minus(s, one(i))
 }

@@ -38,9 +38,9 @@ more-pairs P (x ∷ xs) (y ∷ ys) a b e h k zero = h 0
 more-pairs P (x ∷ xs) (y ∷ ys) a b e h k (suc i) = more-pairs P xs ys a b (omega arith) (λ j. h (suc j)) k i
 
 -- an element raised: none falls
-pub raised : (xs : List ℕ) (i b : ℕ) {x : ℕ} → i < length xs → getD xs i 0 ≤ b → (j : ℕ) → x ≤ getD xs j 0
+pub none-falls : (xs : List ℕ) (i b : ℕ) {x : ℕ} → i < length xs → getD xs i 0 ≤ b → (j : ℕ) → x ≤ getD xs j 0
     → x ≤ getD (set xs i b) j 0
-raised xs i b l h j k =
+none-falls xs i b l h j k =
     by-cases (eqb j i)
     (λ t. rw (eqb-true j i t, getD-set-same xs i b 0 l) (omega (arith, rw (eqb-true j i t) at k)))
     (λ f. rw (getD-set-other xs i j b 0 (eqb-false j i f)) k)

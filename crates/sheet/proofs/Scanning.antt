@@ -23,13 +23,13 @@ use Rattle.sheet.specs.declared.index.Reading.{Reading}
 use Rattle.sheet.specs.Refusal.{numberOf}
 use Rattle.sheet.specs.Record.{recordAt, bodyAt}
 use Rattle.sheet.specs.Model.{Move, Model, moveOf, withMachine, withMove}
-use Rattle.sheet.specs.Parse.{Parsed, nothing, turnOf, parseFrom, parse}
+use Rattle.sheet.specs.Parse.{Parsed, nothing, more, turnOf, parseFrom, parse}
 use Rattle.sheet.specs.Index.{indexOf, readingOf, indexReply, sheetOf}
 use Rattle.sheet.specs.Held.{topOf, keyOf, Small, Below, Held}
 use Rattle.sheet.specs.Scan.{machineRead, moveRead, MachineFits, MoveFits, Stepped}
-use Rattle.sheet.proofs.Arrays.{more-below, more-pairs, raised, fills, one-longer}
+use Rattle.sheet.proofs.Arrays.{more-below, more-pairs, none-falls, fills, one-longer}
 use Rattle.sheet.proofs.Keys.{key-fits}
-use Rattle.sheet.proofs.Turns.{turn-next, turn-ended, turn-refused, parse-none}
+use Rattle.sheet.proofs.Turns.{turn-next, turn-ended, turn-refused}
 
 -- one more key, and the highest command of its machine and mode raised to its
 below-more : (highest : List ℕ) {keys : List ℕ} {key high : ℕ} → key < 65536 → length highest ≡ 256
@@ -38,7 +38,7 @@ below-more : (highest : List ℕ) {keys : List ℕ} {key high : ℕ} → key < 6
 below-more highest {keys} {key} {high} small long a b h =
     let inside : key / 256 < length highest = omega arith in
     λ k i.
-    ⊎-elim (λ l. raised highest (key / 256) high inside a (k / 256) (h k l))
+    ⊎-elim (λ l. none-falls highest (key / 256) high inside a (k / 256) (h k l))
     (λ r. let e : k ≡ key = List·Memᴰ·eq-of-singleton r in rw (e, getD-set-same highest (key / 256) high 0 inside) b)
     (List·Memᴰ·append-cases keys i)
 
@@ -99,7 +99,7 @@ module _ (m : Model) {machines moves : ℕ} {tops live keys highest : List ℕ}
       }
 
 -- some records have been read: the arrays hold them, and what is left of the file decides the reply
-pub record Scanned (s modes tops live bodies keys highest : List ℕ) (machines moves at left : ℕ) : Type 0 where
+pub record Scanned (s modes tops live bodies keys highest : List ℕ) (machines moves at : ℕ) : Type 0 where
   pub parsed : Parsed
   pub held : Held (parsed .model) machines moves tops live keys highest
   pub highest-long : length highest ≡ 256
@@ -107,11 +107,11 @@ pub record Scanned (s modes tops live bodies keys highest : List ℕ) (machines 
   pub bodies-in : bodies ≡ pad 250 (parsed .bodies)
   pub bodies-are : length (parsed .bodies) ≡ moves
   pub near : at ≤ 6 * machines + 24 * moves
-  pub leads : parse s ≡ parseFrom left s at parsed
+  pub leads : parse s ≡ parseFrom (283 - (machines + moves)) s at parsed
 
 pub scan-start : (s : List ℕ)
     → Scanned s (replicate 32 0) (replicate 256 0) (replicate 32 0) (replicate 250 0) (replicate 250 0)
-    (replicate 256 0) 0 0 0 283
+    (replicate 256 0) 0 0 0
 unfolding parse beyond
 scan-start s =
     record {
@@ -138,8 +138,8 @@ scan-start s =
       leads = refl;
     }
 
-module _ (s : List ℕ) {modes tops live bodies keys highest : List ℕ} {machines moves at left : ℕ}
-    (h : Scanned s modes tops live bodies keys highest machines moves at left) where
+module _ (s : List ℕ) {modes tops live bodies keys highest : List ℕ} {machines moves at : ℕ}
+    (h : Scanned s modes tops live bodies keys highest machines moves at) where
   pub tops-long : length tops ≡ 256
   tops-long =
       rw (h .held .tops-in)
@@ -166,8 +166,16 @@ module _ (s : List ℕ) {modes tops live bodies keys highest : List ℕ} {machin
   unfolding indexOf
   index-is = rw (h .held .machines-are, h .held .moves-are, h .modes-in, h .held .live-in, h .bodies-in)
 
-  pub scan-out : left ≤ 0 → parse s ≡ refused 4 at
-  scan-out z = h .leads ∙ parse-none s at (h .parsed) left z
+  -- how many records there may yet be
+  abbrev left : ℕ
+  left = 283 - (machines + moves)
+
+  one-left : 0 < left
+  one-left = omega (arith, h .held .few-machines, h .held .few-moves)
+
+  leads-on : (n : ℕ) {next : ℕ} {e : Parsed} → left - 1 ≡ n
+      → turnOf s at (h .parsed) (recordAt s at) ≡ given (more next e) → parse s ≡ parseFrom n s next e
+  leads-on n {next} {e} l t = h .leads ∙ turn-next s at (h .parsed) left one-left t ∙ ap (λ k. parseFrom k s next e) l
 
   -- after the step over the next record
   module _ {t : Step}
@@ -185,54 +193,59 @@ module _ (s : List ℕ) {modes tops live bodies keys highest : List ℕ} {machin
     pub machine-few : {a b next : ℕ} → t ≡ NewMachine a b next → a ≤ 8
     machine-few e = told e .fits .few
 
+    pub machine-less : {a b next : ℕ} → t ≡ NewMachine a b next → 283 - (machines + 1 + moves) < left
+    machine-less e = omega (arith, machine-room e, one-left)
+
     pub move-room : {start key next : ℕ} → t ≡ NewMove start key next → moves < 250
     move-room e = omega (arith, told e .fits .room, h .held .moves-are)
+
+    pub move-less : {start key next : ℕ} → t ≡ NewMove start key next → 283 - (machines + (moves + 1)) < left
+    move-less e = omega (arith, move-room e, one-left)
 
     pub place-fits : {start key next : ℕ} → t ≡ NewMove start key next → Fits w16 start
     place-fits e = omega (arith, told e .fits .place, h .near, h .held .few-machines, h .held .few-moves)
 
-    module _ (some : 0 < left) where
-      pub scan-machine : {a b next top : ℕ} → t ≡ NewMachine a b next → top ≡ topOf a
-          → Scanned s (set modes machines a) (set tops machines top) (set live machines b) bodies keys highest
-          (machines + 1) moves next (left - 1)
-      unfolding withMachine
-      scan-machine {a} {b} e p =
-          let f = told e .fits in
-          record {
-            parsed = machineRead (h .parsed) a b;
-            held = held-machine (h .parsed .model) (h .held) b f p;
-            highest-long = h .highest-long;
-            modes-in = fills 32 (h .parsed .model .modes) a (h .modes-in) (h .held .machines-are) (machine-room e);
-            bodies-in = h .bodies-in;
-            bodies-are = h .bodies-are;
-            near = omega (arith, f .near, h .near);
-            leads = h .leads ∙ turn-next s at (h .parsed) left some (sym (told e .leads));
-          }
+    pub scan-machine : {a b next top : ℕ} → t ≡ NewMachine a b next → top ≡ topOf a
+        → Scanned s (set modes machines a) (set tops machines top) (set live machines b) bodies keys highest
+        (machines + 1) moves next
+    unfolding withMachine
+    scan-machine {a} {b} e p =
+        let f = told e .fits in
+        record {
+          parsed = machineRead (h .parsed) a b;
+          held = held-machine (h .parsed .model) (h .held) b f p;
+          highest-long = h .highest-long;
+          modes-in = fills 32 (h .parsed .model .modes) a (h .modes-in) (h .held .machines-are) (machine-room e);
+          bodies-in = h .bodies-in;
+          bodies-are = h .bodies-are;
+          near = omega (arith, f .near, h .near);
+          leads = leads-on _ (omega arith) (sym (told e .leads));
+        }
 
-      pub scan-move : {start key next mode high : ℕ} → t ≡ NewMove start key next → mode ≡ key / 256
-          → (getD highest mode 0 ≤ high) × (key % 256 ≤ high)
-          → Scanned s modes tops live (set bodies moves start) (set keys moves key) (set highest mode high)
-          machines (moves + 1) next (left - 1)
-      unfolding withMove
-      scan-move {start} {key} {next} {mode} {high} e p r =
-          let f = told e .fits in
-          record {
-            parsed = moveRead (h .parsed) start (moveOf (bodyAt s at));
-            held = rw p (held-move (h .parsed .model) (h .held) f (h .highest-long) (rw p at r .0) (r .1));
-            highest-long = length-set highest mode high ∙ h .highest-long;
-            modes-in = h .modes-in;
-            bodies-in = fills 250 (h .parsed .bodies) start (h .bodies-in) (h .bodies-are) (move-room e);
-            bodies-are = one-longer (h .parsed .bodies) start (h .bodies-are);
-            near = omega (arith, f .near, h .near);
-            leads = h .leads ∙ turn-next s at (h .parsed) left some (sym (told e .leads));
-          }
+    pub scan-move : {start key next mode high : ℕ} → t ≡ NewMove start key next → mode ≡ key / 256
+        → (getD highest mode 0 ≤ high) × (key % 256 ≤ high)
+        → Scanned s modes tops live (set bodies moves start) (set keys moves key) (set highest mode high)
+        machines (moves + 1) next
+    unfolding withMove
+    scan-move {start} {key} {next} {mode} {high} e p r =
+        let f = told e .fits in
+        record {
+          parsed = moveRead (h .parsed) start (moveOf (bodyAt s at));
+          held = rw p (held-move (h .parsed .model) (h .held) f (h .highest-long) (rw p at r .0) (r .1));
+          highest-long = length-set highest mode high ∙ h .highest-long;
+          modes-in = h .modes-in;
+          bodies-in = fills 250 (h .parsed .bodies) start (h .bodies-in) (h .bodies-are) (move-room e);
+          bodies-are = one-longer (h .parsed .bodies) start (h .bodies-are);
+          near = omega (arith, f .near, h .near);
+          leads = leads-on _ (omega arith) (sym (told e .leads));
+        }
 
-      pub scan-ended : t ≡ End → parse s ≡ given (h .parsed)
-      scan-ended e = h .leads ∙ turn-ended s at (h .parsed) left some (sym (told e .leads))
+    pub scan-ended : t ≡ End → parse s ≡ given (h .parsed)
+    scan-ended e = h .leads ∙ turn-ended s at (h .parsed) left one-left (sym (told e .leads))
 
-      pub scan-refused : {cause : Cause} {place : ℕ} → t ≡ Refused cause place
-          → parse s ≡ refused (numberOf cause) place
-      scan-refused e = h .leads ∙ turn-refused s at (h .parsed) left some (sym (told e .leads))
+    pub scan-refused : {cause : Cause} {place : ℕ} → t ≡ Refused cause place
+        → parse s ≡ refused (numberOf cause) place
+    scan-refused e = h .leads ∙ turn-refused s at (h .parsed) left one-left (sym (told e .leads))
 
 -- the reply, from what parsing the file finds
 module _ (s : List ℕ) where

@@ -42,12 +42,6 @@ module _ (s : List ℕ) (at : ℕ) (d : Parsed) where
   turn-refused zero h q = absurd (not-suc-le-zero h)
   turn-refused (suc n) h q = rw (q, parseFrom)
 
-  -- none left
-  pub parse-none : (n : ℕ) → n ≤ 0 → parseFrom n s at d ≡ refused 4 at
-  unfolding parseFrom
-  parse-none zero h = refl
-  parse-none (suc n) h = absurd (not-suc-le-zero h)
-
   pub parse-cut : (n : ℕ) → 0 < n → recordAt s at ≡ Cut → parseFrom n s at d ≡ refused 1 at
   parse-cut n h w = turn-refused n h (ap (turnOf s at d) w)
 

@@ -9,7 +9,8 @@ pub fn has_mode(mask: u8, mode: u8) -> bool
     if 8 <= mode {
         return false;
     }
-    (mask >> mode) % 2 == 1
+    // One instruction tests a bit of a u32; a byte takes three.
+    (mask as u32 >> mode) % 2 == 1
 }
 
 // Whether the set holds a mode at or past n.

@@ -52,9 +52,6 @@ impl Sheet {
     // Moves at most.
     pub const MOVES: usize = 250;
 
-    // Records at most: all machines, all moves and the end.
-    pub const RECORDS: usize = Sheet::MACHINES + Sheet::MOVES + 1;
-
     // The index of a sheet with nothing in it.
     pub fn empty() -> Self
         ensures { λ r. ⌜ r ≡ indexOf nothing ⌝ }

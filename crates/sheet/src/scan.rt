@@ -178,9 +178,8 @@ pub fn read(s: &[u8]) -> Reading
     let mut machines: usize = 0;
     let mut moves: usize = 0;
     let mut at: usize = 0;
-    let mut left: usize = Sheet::RECORDS;
-    while 0 < left {
-        left -= 1;
+    // Ends, since a step refuses a machine or a move too many.
+    loop {
         let t = record_step(
             s,
             at,
@@ -229,5 +228,4 @@ pub fn read(s: &[u8]) -> Reading
             }
         }
     }
-    refusal(Cause::Misplaced, at)
 }

@@ -2,7 +2,7 @@ use mathlib.Core.Path.{sym}
 use mathlib.Core.Bool.{or-false}
 use native.Mathlib.Omega.{arith}
 use borrow.Author.Tests.{ne-eqb}
-use Rattle.sets.proofs.Laws.{bit-union, bit-single}
+use Rattle.sets.proofs.Laws.{bit-union, bit-alone}
 use borrow.Author.Needs.{needs}
 use Rattle.sets.proofs.put.Statement.{statement}
 use Rattle.sets.proofs.put.Tie as tie
@@ -11,7 +11,7 @@ with-requires : tie.Need-with-requires
 with-requires c κs = search needs
 
 returns : tie.Need-returns
-returns c j h = rw (c .with .ensures, bit-union, bit-single)
+returns c j h = rw (c .with .ensures, bit-union, bit-alone)
 
 returns-2 : tie.Need-returns-2
 returns-2 c j h = rw (ne-eqb (c .before .args .i) j (omega arith)) (sym (or-false _))

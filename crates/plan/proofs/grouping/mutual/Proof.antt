@@ -1,7 +1,7 @@
 use Prim.Native.Nat.{_<_}
 use native.Mathlib.Omega.{arith}
 use lib.ListN.{length}
-use Rattle.sets.specs.Sets.{members}
+use Rattle.sets.specs.Sets.{elements}
 use Rattle.sets.proofs.Members.{taken-below, taken-shorter}
 use Rattle.plan.proofs.SetLoops.{Meets, meets-none, meets-next, meets-end}
 use borrow.Author.Needs.{needs}
@@ -12,7 +12,10 @@ abbrev Inv-loop : tie.InvT-loop
 Inv-loop reach i r₀ rest₀ r rest = Meets reach i r rest
 
 abbrev μ-loop : tie.MeasureT-loop
-μ-loop reach i r₀ rest₀ r rest = length (members rest)
+μ-loop reach i r₀ rest₀ r rest = length (elements rest)
+
+wide-requires : tie.Need-wide-requires Inv-loop μ-loop
+wide-requires c κs = search needs
 
 mul-rest : tie.Need-mul-rest Inv-loop μ-loop
 mul-rest c = search needs
@@ -21,7 +24,7 @@ shared-slice-read-rest : tie.Need-shared-slice-read-rest Inv-loop μ-loop
 shared-slice-read-rest c = search needs
 
 loop-holds : tie.Need-loop-holds Inv-loop μ-loop
-loop-holds c = meets-none _ _ (c .shared-slice-known2 .given (c .before .before .args .i) .fits)
+loop-holds c = meets-none _ _ (c .shared-slice-known2 .given (c .before .wide .result) .fits)
 
 lowest-requires : tie.Need-lowest-requires Inv-loop μ-loop
 lowest-requires c κs = search needs
@@ -48,7 +51,8 @@ loop-again : tie.Need-loop-again Inv-loop μ-loop
 loop-again c = search meets-next
 
 returns : tie.Need-returns Inv-loop μ-loop
-returns c = search meets-end
+returns c =
+    rw (← c .before .before .before .wide .ensures .0) (meets-end _ _ (c .before .loop .inv) (c .loop-test .left))
 
 pub mutual-spec : {M : Type 1} → statement M
 mutual-spec =
@@ -56,6 +60,7 @@ mutual-spec =
     (tie.spec
     Inv-loop
     μ-loop
+    wide-requires
     mul-rest
     shared-slice-read-rest
     loop-holds

@@ -1,18 +1,19 @@
 use Prim.Native.Nat.{_-_}
 use lib.ListN.{length}
-use Rattle.plan.proofs.SetLoops.{Names, names-none, names-next, names-end}
+use Rattle.plan.specs.Needs.{names}
+use Rattle.plan.proofs.NeedLoop.{PutUpto, put-none, put-next, put-end}
 use borrow.Author.Needs.{needs}
 use Rattle.plan.proofs.grouping.named.Statement.{statement}
 use Rattle.plan.proofs.grouping.named.Tie as tie
 
 abbrev Inv-loop : tie.InvT-loop
-Inv-loop body r₀ at₀ r at = Names body r at
+Inv-loop body r₀ at₀ r at = PutUpto (λ i. i) body r at
 
 abbrev μ-loop : tie.MeasureT-loop
 μ-loop body r₀ at₀ r at = length body - at
 
 loop-holds : tie.Need-loop-holds Inv-loop μ-loop
-loop-holds c = search names-none
+loop-holds c = put-none _ _
 
 add-loop : tie.Need-add-loop Inv-loop μ-loop
 add-loop c = search needs
@@ -33,10 +34,11 @@ loop-less : tie.Need-loop-less Inv-loop μ-loop
 loop-less c = search needs
 
 loop-again : tie.Need-loop-again Inv-loop μ-loop
-loop-again c = search names-next
+loop-again c = search put-next
 
 returns : tie.Need-returns Inv-loop μ-loop
-returns c = search names-end
+unfolding names
+returns c = record { bits = put-end _ _ (c .before .loop .inv) (c .loop-test .left) }
 
 pub named-spec : {M : Type 1} → statement M
 named-spec =

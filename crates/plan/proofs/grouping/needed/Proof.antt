@@ -3,8 +3,8 @@ use native.Mathlib.Omega.{arith}
 use Rattle.sheet.specs.Model.{Model}
 use Rattle.sheet.specs.Index.{Indexes}
 use Rattle.sheet.proofs.Indexed.{indexes-valid, indexes-moves}
-use Rattle.plan.proofs.NeedSets.{NeedsRead, reads-none, reads-end}
-use Rattle.plan.proofs.NeedSets.{turn-place, turn-behind, turn-long, turn-machine, turn-reads}
+use Rattle.plan.proofs.MoveTurns.{turn-place, turn-behind, turn-long}
+use Rattle.plan.proofs.NeedSets.{NeedsRead, reads-none, reads-end, turn-fits, turn-reads}
 use borrow.Author.Needs.{needs}
 use Rattle.plan.proofs.grouping.needed.Statement.{statement}
 use Rattle.plan.proofs.grouping.needed.Tie as tie
@@ -40,10 +40,10 @@ wide-requires : tie.Need-wide-requires Inv-loop μ-loop
 wide-requires c κs = search needs
 
 mul-join : tie.Need-mul-join Inv-loop μ-loop
-mul-join c = let l : c .wide .result < 64 = search turn-machine in omega arith
+mul-join c = let l : c .wide .result < 64 = search turn-fits in omega arith
 
 array-read-join : tie.Need-array-read-join Inv-loop μ-loop
-array-read-join c = search turn-machine
+array-read-join c = search turn-fits
 
 named-requires : tie.Need-named-requires Inv-loop μ-loop
 named-requires c κs = search needs
@@ -52,10 +52,10 @@ join-requires : tie.Need-join-requires Inv-loop μ-loop
 join-requires c κs = search needs
 
 mul-next : tie.Need-mul-next Inv-loop μ-loop
-mul-next c = let l : c .before .before .wide .result < 64 = search turn-machine in omega arith
+mul-next c = let l : c .before .before .wide .result < 64 = search turn-fits in omega arith
 
 array-write-next : tie.Need-array-write-next Inv-loop μ-loop
-array-write-next c = search turn-machine
+array-write-next c = search turn-fits
 
 add-v : tie.Need-add-v Inv-loop μ-loop
 add-v c =

@@ -19,6 +19,9 @@ mul-ready c = search needs
 shared-slice-read-ready : tie.Need-shared-slice-read-ready Inv-loop μ-loop
 shared-slice-read-ready c = search needs
 
+cast-t11 : tie.Need-cast-t11 Inv-loop μ-loop
+cast-t11 c = search needs
+
 ready-requires : tie.Need-ready-requires Inv-loop μ-loop
 ready-requires c κs = search needs
 
@@ -52,6 +55,7 @@ next-group-spec =
     loop-holds
     mul-ready
     shared-slice-read-ready
+    cast-t11
     ready-requires
     mul-result
     shared-slice-read-result

@@ -1,5 +1,4 @@
 use Prim.Native.Nat.{_-_}
-use mathlib.Core.Path.{refl}
 use lib.ListN.{getD}
 use Rattle.common.proofs.Filling.{Filled, filled-none, filled-next, filled-end}
 use Rattle.plan.specs.MachineSets.{Outside}
@@ -15,7 +14,7 @@ abbrev μ-loop : tie.MeasureT-loop
 μ-loop next groups n r₀ i₀ r i = n - i
 
 loop-holds : tie.Need-loop-holds Inv-loop μ-loop
-loop-holds c = filled-none _ refl
+loop-holds c = filled-none _ (search needs)
 
 mul-union-of : tie.Need-mul-union-of Inv-loop μ-loop
 mul-union-of c = search needs

@@ -1,5 +1,4 @@
 use Prim.Native.Nat.{_-_}
-use mathlib.Core.Path.{refl}
 use Rattle.search.specs.Search.{graphOf, Reached}
 use Rattle.common.proofs.Filling.{Filled, filled-none, filled-next, filled-end}
 use borrow.Author.Needs.{needs}
@@ -13,7 +12,7 @@ abbrev μ-loop : tie.MeasureT-loop
 μ-loop next n r₀ i₀ r i = n - i
 
 loop-holds : tie.Need-loop-holds Inv-loop μ-loop
-loop-holds c = filled-none _ refl
+loop-holds c = filled-none _ (search needs)
 
 cast-reach : tie.Need-cast-reach Inv-loop μ-loop
 cast-reach c = search needs

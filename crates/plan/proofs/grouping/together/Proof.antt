@@ -1,5 +1,4 @@
 use Prim.Native.Nat.{_-_}
-use mathlib.Core.Path.{refl}
 use Rattle.common.proofs.Filling.{Filled, filled-none, filled-next, filled-end}
 use Rattle.plan.specs.MachineSets.{Mutual}
 use borrow.Author.Needs.{needs}
@@ -13,7 +12,10 @@ abbrev μ-loop : tie.MeasureT-loop
 μ-loop reach n r₀ i₀ r i = n - i
 
 loop-holds : tie.Need-loop-holds Inv-loop μ-loop
-loop-holds c = filled-none _ refl
+loop-holds c = filled-none _ (search needs)
+
+cast-t7 : tie.Need-cast-t7 Inv-loop μ-loop
+cast-t7 c = search needs
 
 mutual-requires : tie.Need-mutual-requires Inv-loop μ-loop
 mutual-requires c κs = search needs
@@ -43,6 +45,7 @@ together-spec =
     Inv-loop
     μ-loop
     loop-holds
+    cast-t7
     mutual-requires
     mul-r
     array-write-r

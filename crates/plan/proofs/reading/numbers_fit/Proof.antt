@@ -1,4 +1,4 @@
-use Rattle.plan.proofs.RecordTests.{numbers-few, numbers-judged, numbers-missing}
+use Rattle.plan.proofs.RecordTests.{body-few, numbers-judged, numbers-missing}
 use borrow.Author.Needs.{needs}
 use Rattle.plan.proofs.reading.numbers_fit.Statement.{statement}
 use Rattle.plan.proofs.reading.numbers_fit.Tie as tie
@@ -10,7 +10,7 @@ body-requires : tie.Need-body-requires
 body-requires c κs = search needs
 
 without-gaps-requires : tie.Need-without-gaps-requires
-without-gaps-requires c κs = search numbers-few
+without-gaps-requires c κs = search body-few
 
 returns : tie.Need-returns
 returns c = search numbers-judged

@@ -1,53 +1,52 @@
+use Prim.Native.Nat.{_+_, _-_}
 use mathlib.Core.Path.{sym}
 use native.Mathlib.Omega.{arith}
 use borrow.Author.Needs.{needs}
-use Rattle.sheet.proofs.Scanning.{Scanned, scan-start, tops-long, live-long, keys-long, index-is, scan-out}
-use Rattle.sheet.proofs.Scanning.{machine-room, machine-few, move-room, place-fits, scan-machine, scan-move}
-use Rattle.sheet.proofs.Scanning.{scan-ended, scan-refused, reading-accepted, reading-refused}
+use Rattle.sheet.proofs.Scanning.{Scanned, scan-start, tops-long, live-long, keys-long, index-is}
+use Rattle.sheet.proofs.Scanning.{machine-room, machine-few, machine-less, move-room, move-less, place-fits}
+use Rattle.sheet.proofs.Scanning.{scan-machine, scan-move, scan-ended, scan-refused}
+use Rattle.sheet.proofs.Scanning.{reading-accepted, reading-refused}
 use Rattle.sheet.proofs.scan.read.Statement.{statement}
 use Rattle.sheet.proofs.scan.read.Tie as tie
 
 abbrev Inv-loop : tie.InvT-loop
-Inv-loop s modes₀ tops₀ live₀ bodies₀ keys₀ highest₀ machines₀ moves₀ at₀ left₀
-    modes tops live bodies keys highest machines moves at left =
-    Scanned s modes tops live bodies keys highest machines moves at left
+Inv-loop s modes₀ tops₀ live₀ bodies₀ keys₀ highest₀ machines₀ moves₀ at₀
+    modes tops live bodies keys highest machines moves at =
+    Scanned s modes tops live bodies keys highest machines moves at
 
 abbrev μ-loop : tie.MeasureT-loop
-μ-loop s modes₀ tops₀ live₀ bodies₀ keys₀ highest₀ machines₀ moves₀ at₀ left₀
-    modes tops live bodies keys highest machines moves at left = left
+μ-loop s modes₀ tops₀ live₀ bodies₀ keys₀ highest₀ machines₀ moves₀ at₀
+    modes tops live bodies keys highest machines moves at = 283 - (machines + moves)
 
 loop-holds : tie.Need-loop-holds Inv-loop μ-loop
 loop-holds c = scan-start _
 
-sub-left : tie.Need-sub-left Inv-loop μ-loop
-sub-left c = search needs
-
 slice-aggregate-record-step : tie.Need-slice-aggregate-record-step Inv-loop μ-loop
-slice-aggregate-record-step c = sym (tops-long _ (c .before .before .loop .inv))
+slice-aggregate-record-step c = sym (tops-long _ (c .before .loop .inv))
 
 slice-aggregate-record-step-2 : tie.Need-slice-aggregate-record-step-2 Inv-loop μ-loop
-slice-aggregate-record-step-2 c = sym (live-long _ (c .before .before .before .loop .inv))
+slice-aggregate-record-step-2 c = sym (live-long _ (c .before .before .loop .inv))
 
 slice-aggregate-record-step-3 : tie.Need-slice-aggregate-record-step-3 Inv-loop μ-loop
-slice-aggregate-record-step-3 c = sym (keys-long _ (c .before .before .before .before .loop .inv))
+slice-aggregate-record-step-3 c = sym (keys-long _ (c .before .before .before .loop .inv))
 
 slice-aggregate-record-step-4 : tie.Need-slice-aggregate-record-step-4 Inv-loop μ-loop
-slice-aggregate-record-step-4 c = sym (c .before .before .before .before .before .loop .inv .highest-long)
+slice-aggregate-record-step-4 c = sym (c .before .before .before .before .loop .inv .highest-long)
 
 record-step-requires : tie.Need-record-step-requires Inv-loop μ-loop
-record-step-requires c κs = keys-long _ (c .before .before .before .before .before .loop .inv)
+record-step-requires c κs = keys-long _ (c .before .before .before .before .loop .inv)
 
 enum-known-t : tie.Need-enum-known-t Inv-loop μ-loop
 enum-known-t c = search needs
 
 array-write-modes : tie.Need-array-write-modes Inv-loop μ-loop
 array-write-modes c =
-    machine-room _ (c .before .before .before .before .before .before .before .before .before .loop .inv)
+    machine-room _ (c .before .before .before .before .before .before .before .before .loop .inv)
     (c .before .before .before .record-step .ensures) (c .before .t .given .1)
 
 first-modes-requires : tie.Need-first-modes-requires Inv-loop μ-loop
 first-modes-requires c κs =
-    machine-few _ (c .before .before .before .before .before .before .before .before .before .loop .inv)
+    machine-few _ (c .before .before .before .before .before .before .before .before .loop .inv)
     (c .before .before .before .record-step .ensures) (c .before .t .given .1)
 
 array-write-tops : tie.Need-array-write-tops Inv-loop μ-loop
@@ -55,13 +54,13 @@ array-write-tops c =
     omega (
       arith,
       machine-room _
-          (c .before .before .before .before .before .before .before .before .before .before .loop .inv)
+          (c .before .before .before .before .before .before .before .before .before .loop .inv)
           (c .before .before .before .before .record-step .ensures) (c .before .before .t .given .1),
     )
 
 array-write-live : tie.Need-array-write-live Inv-loop μ-loop
 array-write-live c =
-    machine-room _ (c .before .before .before .before .before .before .before .before .before .before .loop .inv)
+    machine-room _ (c .before .before .before .before .before .before .before .before .before .loop .inv)
     (c .before .before .before .before .record-step .ensures) (c .before .before .t .given .1)
 
 add-machines : tie.Need-add-machines Inv-loop μ-loop
@@ -69,52 +68,53 @@ add-machines c =
     omega (
       arith,
       machine-room _
-          (c .before .before .before .before .before .before .before .before .before .before .loop .inv)
+          (c .before .before .before .before .before .before .before .before .before .loop .inv)
           (c .before .before .before .before .record-step .ensures) (c .before .before .t .given .1),
     )
 
 loop-less : tie.Need-loop-less Inv-loop μ-loop
-loop-less c = search needs
+loop-less c =
+    machine-less _ (c .before .before .before .before .before .before .before .before .before .loop .inv)
+    (c .before .before .before .before .record-step .ensures) (c .before .before .t .given .1)
 
 loop-again : tie.Need-loop-again Inv-loop μ-loop
 loop-again c =
-    scan-machine _ (c .before .before .before .before .before .before .before .before .before .before .loop .inv)
-    (c .before .before .before .before .record-step .ensures)
-    (c .before .before .before .before .before .before .before .before .before .loop-test .taken)
-    (c .before .before .t .given .1) (c .first-modes .ensures)
+    scan-machine _ (c .before .before .before .before .before .before .before .before .before .loop .inv)
+    (c .before .before .before .before .record-step .ensures) (c .before .before .t .given .1)
+    (c .first-modes .ensures)
 
 enum-known-t-2 : tie.Need-enum-known-t-2 Inv-loop μ-loop
 enum-known-t-2 c = search needs
 
 cast-bodies : tie.Need-cast-bodies Inv-loop μ-loop
 cast-bodies c =
-    place-fits _ (c .before .before .before .before .before .before .before .before .before .loop .inv)
+    place-fits _ (c .before .before .before .before .before .before .before .before .loop .inv)
     (c .before .before .before .record-step .ensures) (c .before .t2 .given .1)
 
 mul-bodies : tie.Need-mul-bodies Inv-loop μ-loop
 mul-bodies c =
     omega (
       arith,
-      move-room _ (c .before .before .before .before .before .before .before .before .before .loop .inv)
+      move-room _ (c .before .before .before .before .before .before .before .before .loop .inv)
           (c .before .before .before .record-step .ensures) (c .before .t2 .given .1),
     )
 
 array-write-bodies : tie.Need-array-write-bodies Inv-loop μ-loop
 array-write-bodies c =
-    move-room _ (c .before .before .before .before .before .before .before .before .before .loop .inv)
+    move-room _ (c .before .before .before .before .before .before .before .before .loop .inv)
     (c .before .before .before .record-step .ensures) (c .before .t2 .given .1)
 
 mul-keys : tie.Need-mul-keys Inv-loop μ-loop
 mul-keys c =
     omega (
       arith,
-      move-room _ (c .before .before .before .before .before .before .before .before .before .loop .inv)
+      move-room _ (c .before .before .before .before .before .before .before .before .loop .inv)
           (c .before .before .before .record-step .ensures) (c .before .t2 .given .1),
     )
 
 array-write-keys : tie.Need-array-write-keys Inv-loop μ-loop
 array-write-keys c =
-    move-room _ (c .before .before .before .before .before .before .before .before .before .loop .inv)
+    move-room _ (c .before .before .before .before .before .before .before .before .loop .inv)
     (c .before .before .before .record-step .ensures) (c .before .t2 .given .1)
 
 mode-of-requires : tie.Need-mode-of-requires Inv-loop μ-loop
@@ -134,18 +134,19 @@ add-moves c =
     omega (
       arith,
       move-room _
-          (c .before .before .before .before .before .before .before .before .before .before .before .loop .inv)
+          (c .before .before .before .before .before .before .before .before .before .before .loop .inv)
           (c .before .before .before .before .before .record-step .ensures) (c .before .before .before .t2 .given .1),
     )
 
 loop-less-2 : tie.Need-loop-less-2 Inv-loop μ-loop
-loop-less-2 c = search needs
+loop-less-2 c =
+    move-less _ (c .before .before .before .before .before .before .before .before .before .before .loop .inv)
+    (c .before .before .before .before .before .record-step .ensures) (c .before .before .before .t2 .given .1)
 
 loop-again-2 : tie.Need-loop-again-2 Inv-loop μ-loop
 loop-again-2 c =
-    scan-move _ (c .before .before .before .before .before .before .before .before .before .before .before .loop .inv)
+    scan-move _ (c .before .before .before .before .before .before .before .before .before .before .loop .inv)
     (c .before .before .before .before .before .record-step .ensures)
-    (c .before .before .before .before .before .before .before .before .before .before .loop-test .taken)
     (c .before .before .before .t2 .given .1) (c .before .mode-of .ensures .0) (c .higher .ensures)
 
 enum-told : tie.Need-enum-told Inv-loop μ-loop
@@ -153,10 +154,9 @@ enum-told c = search needs
 
 returns : tie.Need-returns Inv-loop μ-loop
 returns c =
-    reading-accepted _ (index-is _ (c .before .before .before .before .before .before .before .before .loop .inv))
-    (scan-ended _ (c .before .before .before .before .before .before .before .before .loop .inv)
-    (c .before .before .record-step .ensures)
-    (c .before .before .before .before .before .before .before .loop-test .taken) (c .enum-told .given .1))
+    reading-accepted _ (index-is _ (c .before .before .before .before .before .before .before .loop .inv))
+    (scan-ended _ (c .before .before .before .before .before .before .before .loop .inv)
+    (c .before .before .record-step .ensures) (c .enum-told .given .1))
 
 enum-known-t-3 : tie.Need-enum-known-t-3 Inv-loop μ-loop
 enum-known-t-3 c = search needs
@@ -167,17 +167,8 @@ refusal-requires c κs = search needs
 returns-2 : tie.Need-returns-2 Inv-loop μ-loop
 returns-2 c =
     reading-refused _ (c .refusal .result) (c .refusal .ensures) (scan-refused _
-    (c .before .before .before .before .before .before .before .before .before .before .loop .inv)
-    (c .before .before .before .before .record-step .ensures)
-    (c .before .before .before .before .before .before .before .before .before .loop-test .taken)
-    (c .before .before .t3 .given .1))
-
-refusal-requires-2 : tie.Need-refusal-requires-2 Inv-loop μ-loop
-refusal-requires-2 c κs = search needs
-
-returns-3 : tie.Need-returns-3 Inv-loop μ-loop
-returns-3 c = reading-refused _ (c .refusal2 .result) (c .refusal2 .ensures)
-    (scan-out _ (c .before .before .loop .inv) (c .before .loop-test .left))
+    (c .before .before .before .before .before .before .before .before .before .loop .inv)
+    (c .before .before .before .before .record-step .ensures) (c .before .before .t3 .given .1))
 
 pub read-spec : {M : Type 1} → statement M
 read-spec =
@@ -186,7 +177,6 @@ read-spec =
     Inv-loop
     μ-loop
     loop-holds
-    sub-left
     slice-aggregate-record-step
     slice-aggregate-record-step-2
     slice-aggregate-record-step-3
@@ -217,6 +207,4 @@ read-spec =
     returns
     enum-known-t-3
     refusal-requires
-    returns-2
-    refusal-requires-2
-    returns-3)
+    returns-2)

@@ -1,8 +1,8 @@
 use Rattle.sheet.proofs.Indexed.{accepted-indexed, refused-parse}
 use Rattle.plan.proofs.PlanShape.{outline-read, outline-unread}
 use borrow.Author.Needs.{needs}
-use Rattle.plan.proofs.reading.open.Statement.{statement}
-use Rattle.plan.proofs.reading.open.Tie as tie
+use Rattle.plan.proofs.opening.open.Statement.{statement}
+use Rattle.plan.proofs.opening.open.Tie as tie
 
 read-requires : tie.Need-read-requires
 read-requires c κs = search needs

@@ -9,8 +9,8 @@ use Rattle.plan.proofs.PlanShape.{Numbered, shape-refused, numbers-wron
 use Rattle.plan.proofs.PlanShape.{count-few, large-wrong, sizes-right, needs-wrong, needs-right}
 use Rattle.plan.proofs.PlanShape.{records-wrong, shape-right, shape-accepted}
 use borrow.Author.Needs.{needs}
-use Rattle.plan.proofs.reading.shape.Statement.{statement}
-use Rattle.plan.proofs.reading.shape.Tie as tie
+use Rattle.plan.proofs.opening.shape.Statement.{statement}
+use Rattle.plan.proofs.opening.shape.Tie as tie
 
 -- the numbers have passed, and so there are few groups
 numbered : (c : tie.After-body) (m : Model)
