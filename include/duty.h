@@ -29,6 +29,12 @@ uint64_t duty_sheet(const uint8_t *sheet, size_t n);
 /* How long the plan of a sheet is (refusals 1 to 10). Value: bytes of the plan. */
 uint64_t duty_plan_length(const uint8_t *sheet, size_t n);
 
+/* Writes a sheet's plan (refusals 1 to 12): plan_n must be the plan's length,
+ * scratch_n DUTY_SCRATCH, and the scratch is left all zero. Value: 0. */
+#define DUTY_SCRATCH 4096
+uint64_t duty_plan(const uint8_t *sheet, size_t n, uint8_t *plan, size_t plan_n,
+                   uint8_t *scratch, size_t scratch_n);
+
 #ifdef __cplusplus
 }
 #endif

@@ -90,7 +90,13 @@ pub const CALLS: [Call; 5] = [
             )
             .map(|()| 0)
         },
-        library: None,
+        library: Some(|lent| {
+            library::plan(
+                lent.sheet.get(),
+                lent.plan.get_mut(),
+                lent.scratch.get_mut(),
+            )
+        }),
     },
     Call {
         name: "next",

@@ -19,7 +19,7 @@ fn setting(name: &str, usual: u64) -> u64 {
 }
 
 /// Calls that the library is still to have; any other must be there.
-const TO_COME: [&str; 3] = ["plan", "next", "apply"];
+const TO_COME: [&str; 2] = ["next", "apply"];
 
 /// Makes one call in both versions on the same bytes: the replies and every
 /// lent byte must agree, and a refused call changes none.

@@ -5,6 +5,7 @@ use mathlib.Core.Path.{_≡_, refl, sym, ap, subst, _∙_}
 use mathlib.Core.List.{List}
 use native.Mathlib.Omega.{arith}
 use Rattle.common.specs.Reply.{Reply, given, refused}
+use Rattle.common.proofs.Reply.{given-not-refused}
 use Rattle.sheet.specs.declared.index.Sheet.{Sheet}
 use Rattle.sheet.specs.declared.index.Reading.{Reading}
 use Rattle.sheet.specs.declared.refusal.Cause.{Cause}
@@ -19,10 +20,13 @@ use Rattle.sheet.proofs.Parsed.{parse-valid}
 use Rattle.sheet.proofs.Place.{refusal-near}
 use Rattle.plan.specs.declared.measure.Length.{Length}
 use Rattle.plan.specs.declared.measure.Length.the-variants.{Bytes, Refused}
-use Rattle.plan.specs.Planning.{lengthReply}
+use Rattle.plan.specs.declared.making.Planned.{Planned}
+use Rattle.plan.specs.declared.making.Planned.the-variants.{Written, Refused as Unplanned}
+use Rattle.plan.specs.Planning.{lengthReply, planReply}
+use Rattle.plan.specs.Making.{plannedOf, toldOf}
 use Rattle.plan.specs.Measured.{measuredOf}
-use Rattle.plan.proofs.SheetLength.{length-near}
-use Rattle.panel.specs.Words.{wordOf, sheetReply}
+use Rattle.plan.proofs.SheetLength.{length-near, plan-near}
+use Rattle.panel.specs.Words.{wordOf, sheetReply, doneReply}
 
 -- the counts of an index are small
 pub record Few (x : Sheet) : Type 0 where
@@ -69,3 +73,29 @@ module _ (s : List ℕ) (r : Length) (e : measuredOf r ≡ lengthReply s) where
 
     pub unmeasured-near : place ≤ 6196
     unmeasured-near = length-near s (sym told)
+
+module _ (s : List ℕ) (buffer scratch : ℕ) (r : Planned) (e : plannedOf r ≡ toldOf (planReply s buffer scratch)) where
+  -- the word of a plan that is written is 0
+  pub planned-word : r ≡ Written → 0 ≡ wordOf (doneReply (planReply s buffer scratch))
+  planned-word a = go (planReply s buffer scratch) (ap plannedOf (sym a) ∙ e)
+    where
+      go : (q : Reply (List ℕ)) → given tt ≡ toldOf q → 0 ≡ wordOf (doneReply q)
+      go (given plan) h = refl
+      go (refused number place) h = absurd (given-not-refused h)
+
+  module _ (cause : Cause) (place : ℕ) (a : r ≡ Unplanned cause place) where
+    unplanned : planReply s buffer scratch ≡ refused (numberOf cause) place
+    unplanned = go (planReply s buffer scratch) (ap plannedOf (sym a) ∙ e)
+      where
+        go : (q : Reply (List ℕ)) → refused (numberOf cause) place ≡ toldOf q → q ≡ refused (numberOf cause) place
+        go (given plan) h = absurd (given-not-refused (sym h))
+        go (refused number at) h =
+            let n : number ≡ numberOf cause = cc in
+            let p : at ≡ place = cc in
+            rw (n, p)
+
+    pub unplanned-word : 4294967296 * numberOf cause + place ≡ wordOf (doneReply (planReply s buffer scratch))
+    unplanned-word = rw unplanned
+
+    pub unplanned-near : place ≤ 6196
+    unplanned-near = plan-near s buffer scratch unplanned

@@ -1,5 +1,6 @@
 -- The 64-bit replies of the C interface: above the refusal's number, or 0; below its place, or the value.
 use Prim.Native.Nat.{ℕ, _+_, _*_}
+use mathlib.Core.List.{List}
 use Rattle.common.specs.Reply.{Reply, given, refused}
 use Rattle.sheet.specs.Model.{machineCount, moveCount}
 use Rattle.sheet.specs.Parse.{Parsed}
@@ -12,3 +13,8 @@ wordOf (refused number place) = 4294967296 * number + place
 abbrev pub sheetReply : Reply Parsed → Reply ℕ
 sheetReply (given d) = given (256 * moveCount (d .model) + machineCount (d .model))
 sheetReply (refused number place) = refused number place
+
+-- planning: 0, the plan being in the lent buffer
+abbrev pub doneReply : Reply (List ℕ) → Reply ℕ
+doneReply (given plan) = given 0
+doneReply (refused number place) = refused number place

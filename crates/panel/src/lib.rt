@@ -1,4 +1,5 @@
 // The C interface: exported functions that put replies into 64 bits. Nothing is decided here.
+use plan::making::Planned;
 use plan::measure::Length;
 use sheet::refusal::Cause;
 use sheet::refusal::Verdict;
@@ -6,8 +7,9 @@ ghost use mathlib.Core.Path.{_≡_};
 ghost use Prim.Native.Nat.{_+_, _*_, _≤_};
 ghost use Rattle.sheet.specs.Refusal.{numberOf};
 ghost use Rattle.sheet.specs.Parse.{parse};
-ghost use Rattle.plan.specs.Planning.{lengthReply};
-ghost use Rattle.panel.specs.Words.{wordOf, sheetReply};
+ghost use lib.ListN.{length};
+ghost use Rattle.plan.specs.Planning.{lengthReply, planReply, bufferAfter, scratchAfter};
+ghost use Rattle.panel.specs.Words.{wordOf, sheetReply, doneReply};
 
 // The word of a refusal.
 fn refusal(cause: Cause, place: usize) -> u64
@@ -39,5 +41,24 @@ pub extern "C" fn duty_plan_length(file: &[u8]) -> u64
     match length {
         Length::Bytes(bytes) => bytes as u64,
         Length::Refused(cause, place) => refusal(cause, place),
+    }
+}
+
+// Writes the plan of a sheet into a buffer of its length, and zeros into the scratch: 0, or the refusal.
+#[no_mangle]
+pub extern "C" fn duty_plan(file: &[u8], buffer: &mut [u8], scratch: &mut [u8]) -> u64
+    ensures reply { λ r. ⌜ r ≡ wordOf (doneReply
+        (planReply (now (file .entry)) (length (now (buffer .entry))) (length (now (scratch .entry))))) ⌝ }
+    ensures written { λ _. ⌜ now (buffer .exit)
+        ≡ bufferAfter (planReply (now (file .entry)) (length (now (buffer .entry))) (length (now (scratch .entry))))
+        (now (buffer .entry)) ⌝ }
+    ensures left { λ _. ⌜ now (scratch .exit)
+        ≡ scratchAfter (planReply (now (file .entry)) (length (now (buffer .entry))) (length (now (scratch .entry))))
+        (now (scratch .entry)) ⌝ }
+{
+    let planned = plan::making::plan(file, buffer, scratch);
+    match planned {
+        Planned::Written => 0,
+        Planned::Refused(cause, place) => refusal(cause, place),
     }
 }

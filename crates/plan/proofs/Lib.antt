@@ -13,6 +13,7 @@ pub mod Entries
 pub mod EntriesSame
 pub mod EntryBytes
 pub mod GroupLoops
+pub mod GroupPassed
 pub mod GroupSets
 pub mod Groups
 pub mod Helps
@@ -32,6 +33,7 @@ pub mod Modes
 pub mod ModesRight
 pub mod MoveLinks
 pub mod MoveTurns
+pub mod MovesLinking
 pub mod Named
 pub mod NamedGroups
 pub mod NamedLoop
@@ -44,8 +46,13 @@ pub mod NumbersUsed
 pub mod OneDigit
 pub mod Overwriting
 pub mod OwnLaws
+pub mod PassLoop
+pub mod PassTurns
+pub mod PassingMoves
+pub mod PlanAnswers
 pub mod PlanBytes
 pub mod PlanShape
+pub mod PlanWritten
 pub mod Planned
 pub mod Planning
 pub mod Radix
@@ -54,6 +61,7 @@ pub mod ReadBack
 pub mod Rebuilt
 pub mod RecordTests
 pub mod Replies
+pub mod RoughBound
 pub mod Rounds
 pub mod RouteSets
 pub mod Routes

@@ -8,17 +8,17 @@ use mathlib.Core.List.{List}
 use native.Mathlib.Omega.{arith}
 use lib.ListN.{length, getD, take}
 use Rattle.common.specs.Lists.{upTo, find}
-use Rattle.common.specs.Reply.{Reply, refused, andThen}
+use Rattle.common.specs.Reply.{Reply, given, refused, andThen}
 use Rattle.common.proofs.Reply.{andThen-refused, caused-each, refused-cause}
 use Rattle.sheet.specs.declared.index.Sheet.{Sheet}
 use Rattle.sheet.specs.Model.{Model, machineCount}
-use Rattle.sheet.specs.Parse.{parse}
+use Rattle.sheet.specs.Parse.{Parsed, parse}
 use Rattle.sheet.specs.Index.{Indexes}
 use Rattle.sheet.proofs.Indexed.{indexes-valid, indexes-machines, indexes-modes}
 use Rattle.sheet.proofs.Parsed.{parse-valid}
 use Rattle.sheet.proofs.Place.{refusal-near}
 use Rattle.plan.specs.Groups.{groupCount, groupsOf}
-use Rattle.plan.specs.Planning.{large, largePlace, sizeFaults, lengthReply}
+use Rattle.plan.specs.Planning.{large, largePlace, sizeFaults, lengthReply, planReply}
 use Rattle.plan.specs.Sizes.{SmallNumbers, CountsOf}
 use Rattle.plan.specs.Measured.{lengthWith}
 use Rattle.plan.proofs.GroupLoops.{smallest-inside}
@@ -33,7 +33,7 @@ module _ {s : List ℕ} {x : Sheet} {m : Model} (i : Indexes s x m) where
 
   -- the group numbers of the sheet, at the front of an array
   module _ (numbers : List ℕ) (e : take (machineCount m) numbers ≡ groupsOf m) where
-    numbers-are : take (x .machines) numbers ≡ groupsOf m
+    pub numbers-are : take (x .machines) numbers ≡ groupsOf m
     numbers-are = ap (λ n. take n numbers) (indexes-machines i) ∙ e
 
     numbers-length : length (take (x .machines) numbers) ≡ machineCount m
@@ -57,15 +57,30 @@ module _ {s : List ℕ} {x : Sheet} {m : Model} (i : Indexes s x m) where
     own-length f = f m numbers-length (indexes-modes i) ∙ ap (lengthWith m) numbers-are
 
 -- the place of a refusal is that of a record, or a machine's number
+-- the place of 9 is a machine's number
+large-place-near : (s : List ℕ) {d : Parsed} → parse s ≡ given d → largePlace (d .model) (groupsOf (d .model)) ≤ 6196
+unfolding largePlace
+large-place-near s {d} read =
+    let groups = groupsOf (d .model) in
+    let small = smallest-inside groups (find (large (d .model) groups) (upTo (groupCount groups)) 0) in
+    omega (arith, parse-valid s read .few-machines, length-groupsOf (d .model))
+
 pub length-near : (s : List ℕ) {n p : ℕ} → lengthReply s ≡ refused n p → p ≤ 6196
-unfolding lengthReply sizeFaults largePlace
+unfolding lengthReply sizeFaults
 length-near s e =
     ⊎-elim
     (λ unread. refusal-near s unread)
     (λ (d, read, faulty).
-    let groups = groupsOf (d .model) in
-    let small = smallest-inside groups (find (large (d .model) groups) (upTo (groupCount groups)) 0) in
-    let few = parse-valid s read .few-machines in
-    let l = length-groupsOf (d .model) in
+    let near = large-place-near s read in
+    caused-each (λ n p. p ≤ 6196) (omega arith) (refused-cause _ _ faulty))
+    (andThen-refused (parse s) _ e)
+
+pub plan-near : (s : List ℕ) (buffer scratch : ℕ) {n p : ℕ} → planReply s buffer scratch ≡ refused n p → p ≤ 6196
+unfolding planReply sizeFaults
+plan-near s buffer scratch e =
+    ⊎-elim
+    (λ unread. refusal-near s unread)
+    (λ (d, read, faulty).
+    let near = large-place-near s read in
     caused-each (λ n p. p ≤ 6196) (omega arith) (refused-cause _ _ faulty))
     (andThen-refused (parse s) _ e)

@@ -1,19 +1,20 @@
 -- What `writing` stores, one byte after the other: two bytes, two times two bytes, a copy, and zeros.
 -- Assumes nothing.
 use Prim.Native.Nat.{ℕ, _+_, _/_, _%_, _≤_, _<_, zero-le}
-use mathlib.Core.Path.{_≡_, refl, _∙_}
+use mathlib.Core.Path.{_≡_, refl, ap, _∙_}
 use mathlib.Core.List.{List, [], _∷_, _++_, append-assoc, append-nil}
 use native.Mathlib.Nat.{le-antisymm}
 use native.Mathlib.Numerals.{add-one}
 use native.Mathlib.Omega.{arith}
 use borrow.Author.Fill.{fill-none, fill-more}
-use lib.ListN.{length, getD, set, take, drop, replicate, length-set}
+use lib.ListN.{length, getD, set, take, drop, replicate, length-append, length-set}
 use lib.Seq.{take-length, drop-length, sets-eq, paste, paste-zero, paste-suc}
-use Rattle.sheet.specs.Record.{twoBytes}
-use Rattle.sheet.proofs.Written.{length-twoBytes}
+use Rattle.sheet.specs.Record.{twoBytes, recordOf}
+use Rattle.sheet.proofs.Written.{length-twoBytes, length-recordOf}
 use Rattle.plan.specs.Bytes.{fourBytes}
 use Rattle.plan.specs.Written.{written}
-use Rattle.plan.proofs.Overwriting.{written-more}
+use Rattle.plan.proofs.Bytes.{length-fourBytes}
+use Rattle.plan.proofs.Overwriting.{written-none, written-more, length-written}
 
 pub two-written : (at n : ℕ) (s : List ℕ) → at + 2 ≤ length s
     → set (set s at (n % 256)) (at + 1) (n / 256 % 256) ≡ written at (twoBytes n) s
@@ -33,6 +34,39 @@ pub bound-written : (s p q : List ℕ) (at bound : ℕ) → p ≡ written at (tw
 unfolding fourBytes
 bound-written s p q at bound first room second =
     header-written s p q at (bound % 65536) first room (bound / 65536) refl second
+
+-- Records
+
+pub record-written : (s p q body : List ℕ) (at kind next : ℕ)
+    → p ≡ written at (twoBytes (length body) ++ twoBytes kind) s → q ≡ written next body p → next ≡ at + 4 → at ≤ length s → q ≡ written at (recordOf kind body) s
+unfolding recordOf
+record-written s p q body at kind next first second e room =
+    let header = twoBytes (length body) ++ twoBytes kind in
+    let four : length header ≡ 4
+    = omega (
+      arith,
+      length-append (twoBytes (length body)) (twoBytes kind),
+      length-twoBytes (length body),
+      length-twoBytes kind,
+    ) in
+    second ∙ rw first (written-more at header s room body (omega arith))
+
+pub start-written : (s p q numbers : List ℕ) → p ≡ written 0 (twoBytes (length numbers) ++ twoBytes 16) s
+    → q ≡ written 4 numbers p → q ≡ written 0 (recordOf 16 numbers) s
+start-written s p q numbers first second = record-written s p q numbers 0 16 4 first second refl (omega arith)
+
+pub end-written : (s p q t : List ℕ) (at bound : ℕ) → p ≡ written at (twoBytes 4 ++ twoBytes 18) s
+    → q ≡ written (at + 4) (fourBytes bound) p → t ≡ written (at + 8) (twoBytes 0 ++ twoBytes 3) q → at + 12 ≤ length s
+    → t ≡ written at (recordOf 18 (fourBytes bound) ++ recordOf 3 []) s
+end-written s p q t at bound first second third room =
+    let bytes = fourBytes bound in
+    let four = length-fourBytes bound in
+    let w18 = record-written s p q bytes at 18 (at + 4) (first ∙ rw four) second refl (omega arith) in
+    let long : length q ≡ length s
+    = ap length w18 ∙ length-written at (recordOf 18 bytes) s (omega arith) (omega (arith, length-recordOf 18 bytes)) in
+    record-written q t t [] (at + 8) 3 (at + 12) third (written-none (at + 12) t) (omega arith) (omega arith)
+    ∙ rw w18
+    (written-more at (recordOf 18 bytes) s (omega arith) (recordOf 3 []) (omega (arith, length-recordOf 18 bytes)))
 
 -- The first i of some numbers, copied to a place
 

@@ -5,7 +5,9 @@ pub mod Groups
 pub mod Judged
 pub mod Laws
 pub mod Linked
+pub mod Linking
 pub mod MachineSets
+pub mod Making
 pub mod Meaning
 pub mod Measured
 pub mod ModeSets

@@ -46,7 +46,7 @@ fn needed(s: &[u8], sheet: Sheet) -> [u64; 64]
 }
 
 // For each of n machines, those that it reaches through needs.
-fn reached(next: &[u64], n: usize) -> [u64; 64]
+pub fn reached(next: &[u64], n: usize) -> [u64; 64]
     requires { ⌜ (length (now next) ≡ 64) × (n ≤ 64) ⌝ }
     ensures { λ r. ⌜ ReachSets (now (next .entry)) n r ⌝ }
 {

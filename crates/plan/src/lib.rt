@@ -2,9 +2,11 @@
 pub mod bounding;
 pub mod grouping;
 pub mod judging;
+pub mod making;
 pub mod measure;
 pub mod opening;
 pub mod partition;
+pub mod passing;
 pub mod promises;
 pub mod reading;
 pub mod sizing;

@@ -1,10 +1,10 @@
 // Writing a plan's bytes into the buffer that is lent for them.
 use sheet::record::wide;
 ghost use mathlib.Core.Path.{_≡_};
-ghost use mathlib.Core.List.{_++_};
+ghost use mathlib.Core.List.{[], _++_};
 ghost use Prim.Native.Nat.{_+_, _≤_};
 ghost use lib.ListN.{length, replicate};
-ghost use Rattle.sheet.specs.Record.{twoBytes};
+ghost use Rattle.sheet.specs.Record.{twoBytes, recordOf};
 ghost use Rattle.plan.specs.Bytes.{fourBytes};
 ghost use Rattle.plan.specs.Written.{written};
 
@@ -45,6 +45,26 @@ pub fn put_bound(plan: &mut [u8], at: usize, bound: u32)
 {
     put_two(plan, at, (bound % 65536) as usize);
     put_two(plan, at + 2, (bound / 65536) as usize);
+}
+
+// Writes the record of the group numbers, the first of a plan.
+pub fn put_start(plan: &mut [u8], numbers: &[u8])
+    requires { ⌜ 4 + length (now numbers) ≤ length (now plan) ⌝ }
+    ensures { λ _. ⌜ now (plan .exit) ≡ written 0 (recordOf 16 (now (numbers .entry))) (now (plan .entry)) ⌝ }
+{
+    put_header(plan, 0, numbers.len(), 16);
+    put_numbers(plan, 4, numbers);
+}
+
+// Writes the last two records of a plan, the bound and the end, at a place.
+pub fn put_end(plan: &mut [u8], at: usize, bound: u32)
+    requires { ⌜ at + 12 ≤ length (now plan) ⌝ }
+    ensures { λ _. ⌜ now (plan .exit)
+        ≡ written at (recordOf 18 (fourBytes bound) ++ recordOf 3 []) (now (plan .entry)) ⌝ }
+{
+    put_header(plan, at, 4, 18);
+    put_bound(plan, at + 4, bound);
+    put_header(plan, at + 8, 0, 3);
 }
 
 // Writes zeros.
