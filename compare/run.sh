@@ -39,20 +39,148 @@ cargo_tests() {
     failed=$((failed + bad))
 }
 
-# Runs the C example on each sheet that the expectation names.
-panel_says() {
-    cut -d: -f1 examples/panel.expect | while read -r sheet; do
-        "$work/panel" "$sheet"
-    done | diff examples/panel.expect -
+# Compiles the C example into $work under a name, with further flags.
+build_panel() {
+    local name=$1
+    shift
+    gcc -std=c11 -O2 -Wall -Wextra -Werror "$@" -Iinclude examples/panel.c \
+        -Ltarget/staticlib -lpanel -o "$work/$name"
 }
 
-default_is_the_stove() {
-    "$work/panel" | diff <(head -n 1 examples/panel.expect) -
+# What the C example prints and its exit status, as panel.expect has it. What a
+# sanitizer finds ends with a status of its own.
+panel_round() {
+    local panel=$1 name=$2
+    shift 2
+    echo "\$ panel $name"
+    ASAN_OPTIONS=exitcode=99 UBSAN_OPTIONS=exitcode=99 \
+        timeout 60 "$work/$panel" "$@" 2>"$work/panel.err"
+    echo "exit $?"
+}
+
+# Holds a round of the C example against its part of panel.expect: which build,
+# the name there, then the folder if one is given.
+panel_says() {
+    diff <(sed -n "/^[\$] panel $2\$/,/^exit /p" examples/panel.expect) <(panel_round "$@") || {
+        cat "$work/panel.err"
+        return 1
+    }
+}
+
+# Folders for the C example that are empty, unreadable or the stove with a state
+# or wish that is missing or faulty.
+panel_folders() {
+    mkdir -p "$work"/{empty,no_wish,bad_state,no_state,long_wish,no_way,unreadable/sheet.bin}
+    local folder
+    for folder in no_wish bad_state no_state long_wish no_way; do
+        cp examples/stove/*.bin "$work/$folder"
+    done
+    rm "$work/no_wish/wish.bin"
+    printf '\x00\x02\x00' >"$work/bad_state/state.bin"
+    rm "$work/no_state/state.bin"
+    printf '\x01\x01\x01\x01' >"$work/long_wish/wish.bin"
+    printf '\x01\x01\x01' >"$work/no_way/state.bin"
+    printf '\x03\x03\x04' >"$work/no_way/wish.bin"
+}
+
+# Tries one build of the C example on every folder.
+panel_checks() {
+    local folder
+    check "$1 reads the stove by itself" panel_says "$1" stove
+    for folder in stove kitchen refused; do
+        check "$1 on $folder" panel_says "$1" "$folder" "examples/$folder"
+    done
+    for folder in empty no_wish bad_state no_state long_wish no_way unreadable; do
+        check "$1 on $folder" panel_says "$1" "$folder" "$work/$folder"
+    done
+}
+
+# Compiles a file that has nothing but the header: compiler, language, standard.
+header_compiles() {
+    echo '#include "duty.h"' |
+        "$1" -x "$2" -std="$3" -Wall -Wextra -Werror -pedantic -Iinclude -fsyntax-only -
+}
+
+# The archive's global symbols are the functions that the source exports.
+only_exports() {
+    diff <(sed -nE 's/^pub extern "C" fn ([a-z_]+)\(.*/\1/p' crates/panel/src/lib.rt | sort) \
+        <(nm -g --defined-only target/staticlib/libpanel.a | awk 'NF == 3 { print $3 }' | sort)
 }
 
 # Runs show in a folder of its own and compares what it prints.
 show_says() {
     (cd "$1" && "$root/target/bin/show") | diff <(echo "$2") -
+}
+
+# Runs walk in a folder that has expect.txt and compares what it prints.
+walk_says() {
+    (cd "$1" && "$root/target/bin/walk") | diff "$1/expect.txt" -
+}
+
+# Tries walk on every recorded case.
+recorded_walks() {
+    local folder wrong=0 count=0
+    for folder in "${DUTY_VECTORS:-../shared/vectors}"/*/; do
+        [ -f "$folder/expect.txt" ] || continue
+        count=$((count + 1))
+        walk_says "$folder" || { echo "$folder"; wrong=1; }
+    done
+    [ "$wrong" -eq 0 ] && [ "$count" -gt 0 ]
+}
+
+# Runs a launcher and compares its exit status, then the first words it writes on
+# standard error: none where none are expected.
+launched() {
+    local status=$1 words=$2
+    shift 2
+    "$@" >"$work/out" 2>"$work/words"
+    [ $? -eq "$status" ] || { echo "not status $status"; return 1; }
+    if [ -z "$words" ]; then [ ! -s "$work/words" ]; else grep -q "^$words" "$work/words"; fi
+}
+
+# Runs a launcher whose output can not be written.
+unwritten() {
+    "$@" >/dev/full
+}
+
+# Runs a launcher where neither a program nor rt is at hand.
+without_rt() {
+    mkdir -p "$work/fresh" "$work/few" "$work/folder"
+    cp launch show walk "$work/fresh"
+    ln -sf "$(command -v dirname)" "$work/few"
+    PATH=$work/few "$work/fresh/$1" "$work/folder"
+}
+
+# Tries the launchers show and walk.
+launcher_checks() {
+    local name
+    for name in show walk; do
+        check "./$name builds its program" "./$name"
+        check "./$name on the stove" launched 0 "" "./$name" examples/stove
+        check "./$name on the kitchen by itself" launched 0 "" "./$name"
+        check "./$name on an empty folder" launched 1 "" "./$name" "$work/none"
+        check "./$name on a faulty sheet" launched 1 "" "./$name" examples/refused
+        check "./$name on a missing folder" launched 2 "$name: no folder" "./$name" "$work/missing"
+        check "./$name on a file" launched 2 "$name: no folder" "./$name" README.md
+        check "./$name without room for its output" launched 2 "$name: the output" unwritten "./$name"
+        check "./$name without rt" launched 2 "$name: no rt" without_rt "$name"
+    done
+}
+
+# A sheet in a folder of its own: so many machines of eight modes, then one of
+# the modes given.
+machines() {
+    mkdir -p "$work/$1"
+    python3 -c 'import sys
+eights, last = map(int, sys.argv[1:])
+counts = [8] * eights + [last]
+sheet = b"".join(bytes([2, 0, 1, 0, n, 2 ** n - 1]) for n in counts)
+sys.stdout.buffer.write(sheet + bytes([0, 0, 3, 0]))' "$2" "$3" >"$work/$1/sheet.bin"
+}
+
+# The last line that show prints.
+show_ends() {
+    (cd "$work/$1" && "$root/target/bin/show") | tail -n 1 | diff <(echo "$2") -
 }
 
 # A whole record of 60,000 bytes and unknown kind, one that says a byte more than
@@ -65,16 +193,34 @@ long_files() {
 
 root=$PWD
 long_files
+panel_folders
 check "static library" rt staticlib panel
 check "show" rt check show
-check "show reads a long file whole" show_says "$work/long" "refused 2 0"
-check "show sees that a long file is cut" show_says "$work/cut" "refused 1 0"
-check "show takes a missing file for an empty one" show_says "$work/none" "refused 1 0"
+check "walk" rt check walk
+cut="a record is cut short, or the end is missing"
+check "show reads a long file whole" show_says "$work/long" "refused 2 0: a record of unknown kind or wrong length"
+check "show sees that a long file is cut" show_says "$work/cut" "refused 1 0: $cut"
+check "show takes a missing file for an empty one" show_says "$work/none" "refused 1 0: $cut"
+machines single 0 1
+machines below 20 8
+machines above 21 2
+check "show counts one state" show_ends single "1 machine, 0 moves, 1 state"
+check "show counts 2^63 states" show_ends below "21 machines, 0 moves, 9223372036854775808 states"
+check "show writes 2^64 states as a product" show_ends above "22 machines, 0 moves, $(printf '8 x %.0s' {1..21})2 states"
+for walk in examples/walks/*/; do
+    check "walk on $walk" walk_says "$walk"
+done
+if [ -n "${DUTY_WALKS:-}" ]; then check "walk on every recorded case" recorded_walks; fi
+launcher_checks
 cargo_tests
-check "C example compiles without a warning" gcc -std=c11 -O2 -Wall -Wextra -Werror \
-    -Iinclude examples/panel.c -Ltarget/staticlib -lpanel -o "$work/panel"
-check "C example says what is expected" panel_says
-check "C example reads the stove by itself" default_is_the_stove
+check "the archive has the duty_ functions and no other symbol" only_exports
+check "the header compiles as C11" header_compiles gcc c c11
+check "the header compiles as C++17" header_compiles g++ c++ c++17
+check "panel compiles without a warning" build_panel panel
+panel_checks panel
+check "panel compiles with sanitizers" build_panel panel-sanitized -g \
+    -fsanitize=address,undefined -fno-sanitize-recover
+panel_checks panel-sanitized
 check "examples/make.py writes the committed bytes" python3 examples/make.py --check
 
 echo "$passed passed, $failed failed"

@@ -1,5 +1,6 @@
 #!/usr/bin/env python3
-"""Writes the example kitchens: sheet.bin, state.bin and wish.bin of each.
+"""Writes the example kitchens and walks: sheet.bin, state.bin and wish.bin of each.
+What a walk prints stands beside them in expect.txt, which this does not write.
 
 make.py          writes them beside itself
 make.py --check  compares what stands there and exits non-zero where it differs
@@ -185,6 +186,64 @@ def refused():
     return k.sheet()
 
 
+def single():
+    """One machine of one mode."""
+    return Kitchen([("lamp", ["on"])])
+
+
+def filter_and_pan():
+    """A filter that is used once, and a pan that needs it used."""
+    k = Kitchen([("filter", ["fresh", "used"]), ("pan", ["off", "on"])])
+    k.move("filter", "fresh", "used", 1)
+    k.move("pan", "off", "on", 1, filter="used")
+    return k
+
+
+def dials(number):
+    """Eight-mode dials that turn one way round, each needing the one before at 0."""
+    marks = [str(mark) for mark in range(8)]
+    k = Kitchen([(f"dial_{n}", marks) for n in range(number)])
+    for n in range(number):
+        needs = {f"dial_{n - 1}": "0"} if n else {}
+        for mark in range(8):
+            k.move(f"dial_{n}", marks[mark], marks[(mark + 1) % 8], 1, **needs)
+    return k
+
+
+def bad_morning(k):
+    """Left half done the day before, then all supplies cut."""
+    return k.state(kettle_2="heating", oven_2="heating", steamer="moist", washer="washing")
+
+
+def breakfast(k):
+    """Hot and ready to serve, with the supplies at night again."""
+    return k.wish(water="half", gas="pilot", power="night", hood="off", softener="idle", draught="low", boiler="off",
+                  steam="ready", kettle_1="holding", kettle_2="heating", oven_1="holding", oven_2="heating",
+                  oven_3="holding", steamer="dry", range="low", cabinet="hot", plates="hot", washer="empty",
+                  cold_room="thawing", belt="fast")
+
+
+def walk(name, k, state, wish):
+    """The files of a walk."""
+    folder = f"walks/{name}/"
+    return {folder + "sheet.bin": k.sheet(), folder + "state.bin": state, folder + "wish.bin": wish}
+
+
+def walks():
+    """The walk's cases of document 01, a bad morning and a sheet that cannot be planned."""
+    s, k, f, d = stove(), kitchen(), filter_and_pan(), dials(6)
+    return {
+        **walk("case_3", s, s.state(), s.wish(board="off", fan="on", burner="lit")),
+        **walk("case_4", s, s.state(board="on", fan="on", burner="tripped"),
+               s.wish(board="on", fan="on", burner="lit")),
+        **walk("case_5", s, s.state(board="on", fan="on", burner="lit"), s.wish(burner="tripped")),
+        **walk("case_7", single(), single().state(), single().wish()),
+        **walk("case_8", f, f.state(), f.wish(filter="fresh", pan="on")),
+        **walk("six_dials", d, d.state(), d.wish(dial_5="7")),
+        **walk("bad_morning", k, bad_morning(k), breakfast(k)),
+    }
+
+
 def files():
     s, k = stove(), kitchen()
     lunch = k.wish(kettle_1="holding", kettle_2="holding", oven_1="holding", oven_2="heating",
@@ -199,16 +258,18 @@ def files():
         "kitchen/state.bin": night,
         "kitchen/wish.bin": lunch,
         "refused/sheet.bin": refused(),
+        **walks(),
     }
 
 
 def main():
     checking = sys.argv[1:] == ["--check"]
-    wrong = []
+    stray = {str(path.relative_to(HERE)) for path in HERE.rglob("*.bin")} - set(files())
+    wrong = sorted(stray) if checking else []
     for name, content in files().items():
         path = HERE / name
         if not checking:
-            path.parent.mkdir(exist_ok=True)
+            path.parent.mkdir(parents=True, exist_ok=True)
             path.write_bytes(content)
         elif not path.is_file() or path.read_bytes() != content:
             wrong.append(name)

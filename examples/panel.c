@@ -1,82 +1,230 @@
-/* A wall panel's first steps: reads a sheet and says what the planner thinks
- * of it.
+/* A wall panel to start from: plans a kitchen's sheet, then asks for the next
+ * command and obeys it until the wish is met.
  *
  *     rt staticlib panel
  *     gcc -std=c11 -Wall -Wextra -Werror -Iinclude examples/panel.c \
  *         -Ltarget/staticlib -lpanel -o panel
- *     ./panel examples/stove/sheet.bin
+ *     ./panel examples/stove
+ *
+ * The folder holds sheet.bin, state.bin and wish.bin; a missing file counts as
+ * empty. The exit status is 0 for done, 1 for a refusal, 2 where the panel
+ * could not work.
  */
+#include <errno.h>
+#include <stdbool.h>
 #include <stdio.h>
 #include <stdlib.h>
+#include <string.h>
 
 #include "duty.h"
 
-/* A file's bytes. */
+enum status { DONE = 0, REFUSED = 1, COULD_NOT_WORK = 2 };
+
+/* Bytes to lend; without any, the pointer is null. */
 struct bytes {
     uint8_t *at;
     size_t n;
 };
 
-/* Doubles the room; stops the program where memory is short. */
-static void grow(struct bytes *b, size_t *room)
+/* All that a round is made of. */
+struct kitchen {
+    struct bytes sheet, plan, state, wish;
+};
+
+/* Stops where the panel cannot work, with what it was about and why. */
+static void stop(const char *what)
 {
-    *room = *room ? 2 * *room : 4096;
-    b->at = realloc(b->at, *room);
-    if (b->at == NULL) {
-        perror("panel");
-        exit(2);
-    }
+    fprintf(stderr, "panel: %s: %s\n", what, strerror(errno));
+    exit(COULD_NOT_WORK);
 }
 
-/* Reads a whole file, however long. One that is missing counts as empty. */
-static struct bytes read_file(const char *name)
+/* Memory of a length other than 0, in place of what was there before. */
+static void *memory(void *before, size_t n)
+{
+    void *at = realloc(before, n);
+    if (at == NULL)
+        stop("memory");
+    return at;
+}
+
+/* The name of a file in a folder, to be freed. */
+static char *path(const char *folder, const char *file)
+{
+    size_t n = strlen(folder) + strlen(file) + 2;
+    char *name = memory(NULL, n);
+    snprintf(name, n, "%s/%s", folder, file);
+    return name;
+}
+
+/* All that can be read from an open file. */
+static struct bytes read_all(FILE *f)
 {
     struct bytes b = {NULL, 0};
-    size_t room = 0;
-    grow(&b, &room);
-    FILE *f = fopen(name, "rb");
-    if (f == NULL)
-        return b;
-    size_t got;
-    while ((got = fread(b.at + b.n, 1, room - b.n, f)) > 0) {
+    size_t room = 0, got;
+    do {
+        if (b.n == room) {
+            room = room ? 2 * room : DUTY_SHEET_MAX;
+            b.at = memory(b.at, room);
+        }
+        got = fread(b.at + b.n, 1, room - b.n, f);
         b.n += got;
-        if (b.n == room)
-            grow(&b, &room);
-    }
-    fclose(f);
+    } while (got > 0);
     return b;
 }
 
-/* What each refusal of a sheet means; the place is a byte of the file. */
-static const char *cause(uint32_t number)
+/* The bytes of a file; one that is missing counts as empty. */
+static struct bytes read_file(const char *folder, const char *file)
 {
-    static const char *const causes[] = {
-        "",
-        "a record is cut short, or the end is missing",
-        "a record of unknown kind or wrong length",
-        "bytes after the end",
-        "a record out of its place, or one too many",
-        "a machine whose modes do not fit",
-        "a move of a machine or mode that it cannot have",
-        "a move that needs what cannot be",
-        "a move without a command, or with one used before",
-    };
-    return number < sizeof causes / sizeof causes[0] ? causes[number] : "unknown";
+    struct bytes b = {NULL, 0};
+    char *name = path(folder, file);
+    FILE *f = fopen(name, "rb");
+    if (f != NULL) {
+        b = read_all(f);
+        if (ferror(f))
+            stop(name);
+        fclose(f);
+    } else if (errno != ENOENT) {
+        stop(name);
+    }
+    free(name);
+    return b;
+}
+
+/* What the place of a refusal is. */
+enum place { NOWHERE, BYTE, MACHINE };
+
+static const struct cause {
+    enum place place;
+    const char *phrase;
+} causes[] = {
+    [1] = {BYTE, "a record is cut short, or the end is missing"},
+    [2] = {BYTE, "a record of unknown kind or wrong length"},
+    [3] = {BYTE, "bytes after the end"},
+    [4] = {BYTE, "a record out of its place, or one too many"},
+    [5] = {BYTE, "a machine whose modes do not fit"},
+    [6] = {BYTE, "a move of a machine or mode that cannot make it"},
+    [7] = {BYTE, "a move that needs what cannot be"},
+    [8] = {BYTE, "a move without a command, or with one used before"},
+    [9] = {MACHINE, "its group has more than 64 modes"},
+    [10] = {NOWHERE, "the plan would have too many entries"},
+    [11] = {NOWHERE, "a wish could take more than 65535 commands"},
+    [12] = {NOWHERE, "plan or scratch of a wrong length"},
+    [13] = {MACHINE, "the state does not fit"},
+    [14] = {MACHINE, "the wish does not fit"},
+    [15] = {NOWHERE, "the plan does not fit the sheet"},
+    [16] = {MACHINE, "its group is out of order, and the wish needs it"},
+    [17] = {MACHINE, "its group has no way to what is wished"},
+    [18] = {MACHINE, "its group could be stranded on the way"},
+};
+
+/* The place that stands for a wrong length. */
+#define LENGTH 255
+
+static void say_place(enum place place, uint32_t at)
+{
+    if (place == BYTE)
+        printf(" at byte %u", (unsigned)at);
+    else if (place == MACHINE && at == LENGTH)
+        printf(" for its length");
+    else if (place == MACHINE)
+        printf(" at machine %u", (unsigned)at);
+}
+
+/* Whether a call was refused; if so, says why. */
+static bool refused(uint64_t reply)
+{
+    uint32_t number = duty_refusal(reply);
+    if (number == 0)
+        return false;
+    printf("refused %u", (unsigned)number);
+    if (number < sizeof causes / sizeof causes[0]) {
+        say_place(causes[number].place, duty_value(reply));
+        printf(": %s", causes[number].phrase);
+    }
+    printf("\n");
+    return true;
+}
+
+/* Checks the sheet and says how large the kitchen is. */
+static bool check(const struct kitchen *k)
+{
+    uint64_t reply = duty_sheet(k->sheet.at, k->sheet.n);
+    if (refused(reply))
+        return false;
+    uint32_t size = duty_value(reply);
+    printf("machines: %u, moves: %u\n", (unsigned)(size % 256), (unsigned)(size / 256));
+    return true;
+}
+
+/* Makes the plan in a buffer of its length. */
+static bool plan(struct kitchen *k)
+{
+    static uint8_t scratch[DUTY_SCRATCH];
+    uint64_t reply = duty_plan_length(k->sheet.at, k->sheet.n);
+    if (refused(reply))
+        return false;
+    k->plan.n = duty_value(reply);
+    k->plan.at = memory(NULL, k->plan.n);
+    reply = duty_plan(k->sheet.at, k->sheet.n, k->plan.at, k->plan.n, scratch, sizeof scratch);
+    return !refused(reply);
+}
+
+/* The next command; its value is 0 for done. */
+static uint64_t ask(const struct kitchen *k)
+{
+    return duty_next(k->sheet.at, k->sheet.n, k->plan.at, k->plan.n,
+                     k->state.at, k->state.n, k->wish.at, k->wish.n);
+}
+
+/* Says a command and makes it happen. A panel on the wall would send it to the
+ * machine and read the state anew. */
+static bool obey(struct kitchen *k, uint32_t value)
+{
+    uint8_t machine = (uint8_t)(value / 256), command = (uint8_t)value;
+    printf("machine %u: command %u\n", machine, command);
+    return !refused(duty_apply(k->sheet.at, k->sheet.n, k->state.at, k->state.n,
+                               machine, command));
+}
+
+static void say_done(const struct kitchen *k, unsigned count)
+{
+    printf("done, commands: %u, state:", count);
+    for (size_t i = 0; i < k->state.n; i++)
+        printf(" %u", k->state.at[i]);
+    printf("\n");
+}
+
+/* Asks and obeys until done. */
+static bool fulfil(struct kitchen *k)
+{
+    unsigned count = 0;
+    uint64_t reply = ask(k);
+    while (duty_refusal(reply) == 0 && duty_value(reply) != 0) {
+        if (!obey(k, duty_value(reply)))
+            return false;
+        count++;
+        reply = ask(k);
+    }
+    if (refused(reply))
+        return false;
+    say_done(k, count);
+    return true;
 }
 
 int main(int argc, char **argv)
 {
-    const char *name = argc > 1 ? argv[1] : "examples/stove/sheet.bin";
-    struct bytes sheet = read_file(name);
-    uint64_t reply = duty_sheet(sheet.at, sheet.n);
-    uint32_t number = duty_refusal(reply), value = duty_value(reply);
-
-    if (number == 0)
-        printf("%s: accepted, %u machines and %u moves\n", name,
-               (unsigned)(value % 256), (unsigned)(value / 256));
-    else
-        printf("%s: refused %u at byte %u, %s\n", name, (unsigned)number,
-               (unsigned)value, cause(number));
-    free(sheet.at);
-    return number == 0 ? 0 : 1;
+    const char *folder = argc > 1 ? argv[1] : "examples/stove";
+    struct kitchen k = {
+        .sheet = read_file(folder, "sheet.bin"),
+        .state = read_file(folder, "state.bin"),
+        .wish = read_file(folder, "wish.bin"),
+    };
+    bool done = check(&k) && plan(&k) && fulfil(&k);
+    free(k.sheet.at);
+    free(k.plan.at);
+    free(k.state.at);
+    free(k.wish.at);
+    if (fflush(stdout) != 0)
+        stop("output");
+    return done ? DONE : REFUSED;
 }

@@ -2,10 +2,15 @@
  *
  * The caller lends byte slices, each as a pointer and a length, and keeps
  * them; nothing is allocated or held between calls. A refused call leaves
- * every lent byte as it was.
+ * every lent byte as it was. With length 0 the pointer may be null. Slices of
+ * one call must not overlap, but those that are only read (const) may share
+ * bytes.
  *
  * Each function answers 64 bits: the upper 32 are the refusal's number, or 0
  * if the call was accepted; the lower 32 are the refusal's place, or the value.
+ *
+ * The place is a byte of the sheet (1 to 8) or a machine (9, 13, 14, 16 to 18),
+ * in 13 and 14 also 255 for a wrong length; in 10, 11, 12 and 15 it is 0.
  */
 #ifndef DUTY_H
 #define DUTY_H
@@ -16,6 +21,19 @@
 #ifdef __cplusplus
 extern "C" {
 #endif
+
+/* The longest sheet that is accepted, in bytes. */
+#define DUTY_SHEET_MAX 6196
+
+/* The longest plan that planning writes. */
+#define DUTY_PLAN_MAX 32928
+
+/* The longest plan in shape, be it written by planning or not, that the next
+ * command accepts. */
+#define DUTY_FOREIGN_PLAN_MAX 131184
+
+/* The scratch of planning. */
+#define DUTY_SCRATCH 4096
 
 /* The refusal's number, 0 if there is none. */
 static inline uint32_t duty_refusal(uint64_t reply) { return (uint32_t)(reply >> 32); }
@@ -31,9 +49,20 @@ uint64_t duty_plan_length(const uint8_t *sheet, size_t n);
 
 /* Writes a sheet's plan (refusals 1 to 12): plan_n must be the plan's length,
  * scratch_n DUTY_SCRATCH, and the scratch is left all zero. Value: 0. */
-#define DUTY_SCRATCH 4096
 uint64_t duty_plan(const uint8_t *sheet, size_t n, uint8_t *plan, size_t plan_n,
                    uint8_t *scratch, size_t scratch_n);
+
+/* The next command toward a wish, for any plan whose shape fits the sheet
+ * (refusals 1 to 8, 15, 13, 14, 16 to 18, then 15 for an entry that cannot be
+ * followed). All bytes are only read. Value: 0 for done, else 65536 + 256 *
+ * machine + command. */
+uint64_t duty_next(const uint8_t *sheet, size_t n, const uint8_t *plan, size_t plan_n,
+                   const uint8_t *state, size_t state_n, const uint8_t *wish, size_t wish_n);
+
+/* Applies a command (refusals 1 to 8, 13): the new mode of a machine that
+ * changes is written into the lent state. Value: 1 if a machine changed, else 0. */
+uint64_t duty_apply(const uint8_t *sheet, size_t n, uint8_t *state, size_t state_n,
+                    uint8_t machine, uint8_t command);
 
 #ifdef __cplusplus
 }

@@ -1,10 +1,10 @@
 //! Every call in both versions, side by side, for the comparison and the
-//! benchmark. The values are those of the C interface.
+//! benchmark.
 
-use crate::command::{apply, next_command, Command, Next};
-use crate::plan::{plan, plan_length};
-use crate::sheet::check_sheet;
-use crate::{library, Reply};
+use crate::command::Command;
+use crate::library::Library;
+use crate::version::{Rust, Version};
+use crate::Reply;
 
 /// A lent slice amid bytes that no call may touch.
 #[derive(Clone, Debug, PartialEq, Eq)]
@@ -65,62 +65,68 @@ pub type Side = fn(&mut Lent) -> Reply<u32>;
 pub struct Call {
     pub name: &'static str,
     pub rust: Side,
-    /// None as long as the library does not have the call.
-    pub library: Option<Side>,
+    pub library: Side,
 }
 
 pub const CALLS: [Call; 5] = [
     Call {
         name: "sheet",
-        rust: |lent| check_sheet(lent.sheet.get()),
-        library: Some(|lent| library::sheet(lent.sheet.get())),
+        rust: sheet::<Rust>,
+        library: sheet::<Library>,
     },
     Call {
         name: "plan_length",
-        rust: |lent| plan_length(lent.sheet.get()).map(|length| length as u32),
-        library: Some(|lent| library::plan_length(lent.sheet.get())),
+        rust: plan_length::<Rust>,
+        library: plan_length::<Library>,
     },
     Call {
         name: "plan",
-        rust: |lent| {
-            plan(
-                lent.sheet.get(),
-                lent.plan.get_mut(),
-                lent.scratch.get_mut(),
-            )
-            .map(|()| 0)
-        },
-        library: Some(|lent| {
-            library::plan(
-                lent.sheet.get(),
-                lent.plan.get_mut(),
-                lent.scratch.get_mut(),
-            )
-        }),
+        rust: plan::<Rust>,
+        library: plan::<Library>,
     },
     Call {
         name: "next",
-        rust: |lent| {
-            let next = next_command(
-                lent.sheet.get(),
-                lent.plan.get(),
-                lent.state.get(),
-                lent.goal.get(),
-            );
-            next.map(next_value)
-        },
-        library: None,
+        rust: next::<Rust>,
+        library: next::<Library>,
     },
     Call {
         name: "apply",
-        rust: |lent| apply(lent.sheet.get(), lent.state.get_mut(), lent.command).map(u32::from),
-        library: None,
+        rust: apply::<Rust>,
+        library: apply::<Library>,
     },
 ];
 
-fn next_value(next: Next) -> u32 {
-    match next {
-        Next::Done => 0,
-        Next::Send(Command { machine, command }) => 65536 + 256 * machine as u32 + command as u32,
+impl Call {
+    pub fn named(name: &str) -> Option<&'static Self> {
+        CALLS.iter().find(|call| call.name == name)
     }
+}
+
+fn sheet<V: Version>(lent: &mut Lent) -> Reply<u32> {
+    V::sheet(lent.sheet.get())
+}
+
+fn plan_length<V: Version>(lent: &mut Lent) -> Reply<u32> {
+    V::plan_length(lent.sheet.get())
+}
+
+fn plan<V: Version>(lent: &mut Lent) -> Reply<u32> {
+    V::plan(
+        lent.sheet.get(),
+        lent.plan.get_mut(),
+        lent.scratch.get_mut(),
+    )
+}
+
+fn next<V: Version>(lent: &mut Lent) -> Reply<u32> {
+    V::next(
+        lent.sheet.get(),
+        lent.plan.get(),
+        lent.state.get(),
+        lent.goal.get(),
+    )
+}
+
+fn apply<V: Version>(lent: &mut Lent) -> Reply<u32> {
+    V::apply(lent.sheet.get(), lent.state.get_mut(), lent.command)
 }

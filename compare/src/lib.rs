@@ -2,6 +2,7 @@
 //! from the proved one. The tests hold the two against each other and the
 //! benchmark measures one by the other.
 
+pub mod both;
 pub mod calls;
 pub mod command;
 pub mod faults;
@@ -13,6 +14,7 @@ pub mod records;
 pub mod samples;
 pub mod shape;
 pub mod sheet;
+pub mod version;
 pub mod walk;
 
 /// Why a call is turned down: the number of the cause and the place of it.

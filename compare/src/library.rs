@@ -1,5 +1,7 @@
 //! The proved library, behind its C interface.
 
+use crate::command::Command;
+use crate::version::Version;
 use crate::{refuse, Reply};
 
 extern "C" {
@@ -13,6 +15,24 @@ extern "C" {
         scratch: *mut u8,
         scratch_n: usize,
     ) -> u64;
+    fn duty_next(
+        sheet: *const u8,
+        n: usize,
+        plan: *const u8,
+        plan_n: usize,
+        state: *const u8,
+        state_n: usize,
+        wish: *const u8,
+        wish_n: usize,
+    ) -> u64;
+    fn duty_apply(
+        sheet: *const u8,
+        n: usize,
+        state: *mut u8,
+        state_n: usize,
+        machine: u8,
+        command: u8,
+    ) -> u64;
 }
 
 /// Splits a reply word: the refusal's number above, its place or the value below.
@@ -23,26 +43,57 @@ fn split(word: u64) -> Reply<u32> {
     }
 }
 
-/// Checks a sheet; the value is 256 × moves + machines.
-pub fn sheet(sheet: &[u8]) -> Reply<u32> {
-    split(unsafe { duty_sheet(sheet.as_ptr(), sheet.len()) })
-}
+pub struct Library;
 
-/// The length of a sheet's plan; the value is its bytes.
-pub fn plan_length(sheet: &[u8]) -> Reply<u32> {
-    split(unsafe { duty_plan_length(sheet.as_ptr(), sheet.len()) })
-}
+impl Version for Library {
+    const NAME: &'static str = "the library";
 
-/// Writes a sheet's plan and clears the scratch; the value is 0.
-pub fn plan(sheet: &[u8], plan: &mut [u8], scratch: &mut [u8]) -> Reply<u32> {
-    split(unsafe {
-        duty_plan(
-            sheet.as_ptr(),
-            sheet.len(),
-            plan.as_mut_ptr(),
-            plan.len(),
-            scratch.as_mut_ptr(),
-            scratch.len(),
-        )
-    })
+    fn sheet(sheet: &[u8]) -> Reply<u32> {
+        split(unsafe { duty_sheet(sheet.as_ptr(), sheet.len()) })
+    }
+
+    fn plan_length(sheet: &[u8]) -> Reply<u32> {
+        split(unsafe { duty_plan_length(sheet.as_ptr(), sheet.len()) })
+    }
+
+    fn plan(sheet: &[u8], plan: &mut [u8], scratch: &mut [u8]) -> Reply<u32> {
+        split(unsafe {
+            duty_plan(
+                sheet.as_ptr(),
+                sheet.len(),
+                plan.as_mut_ptr(),
+                plan.len(),
+                scratch.as_mut_ptr(),
+                scratch.len(),
+            )
+        })
+    }
+
+    fn next(sheet: &[u8], plan: &[u8], state: &[u8], goal: &[u8]) -> Reply<u32> {
+        split(unsafe {
+            duty_next(
+                sheet.as_ptr(),
+                sheet.len(),
+                plan.as_ptr(),
+                plan.len(),
+                state.as_ptr(),
+                state.len(),
+                goal.as_ptr(),
+                goal.len(),
+            )
+        })
+    }
+
+    fn apply(sheet: &[u8], state: &mut [u8], command: Command) -> Reply<u32> {
+        split(unsafe {
+            duty_apply(
+                sheet.as_ptr(),
+                sheet.len(),
+                state.as_mut_ptr(),
+                state.len(),
+                command.machine,
+                command.command,
+            )
+        })
+    }
 }

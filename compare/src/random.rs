@@ -1,10 +1,14 @@
 //! Random sheets and all that goes with them, from a seed.
 
+use crate::bits;
 use crate::calls::{Lent, Slot};
 use crate::command::Command;
-use crate::plan::SCRATCH;
+use crate::groups::{Groups, MAX_GROUP_MODES};
+use crate::plan::{BOUND, GROUP_NUMBERS, NO_ROUTE, SCRATCH, TABLE};
 use crate::samples::Builder;
+use crate::shape::Plan;
 use crate::sheet::Sheet;
+use crate::version::Rust;
 use crate::walk::own_plan;
 
 /// A xorshift generator.
@@ -232,7 +236,7 @@ fn noise(random: &mut Random) -> Vec<u8> {
 
 /// A state for a sheet, in nearly all cases one that fits it.
 pub fn state(random: &mut Random, sheet: &Sheet) -> Vec<u8> {
-    let failed = random.once_in(4);
+    let failed = random.once_in(3);
     let mode = |machine| {
         let among = if failed {
             sheet.all(machine)
@@ -248,6 +252,34 @@ pub fn state(random: &mut Random, sheet: &Sheet) -> Vec<u8> {
 
 /// A goal for a sheet, in nearly all cases one that fits it.
 pub fn goal(random: &mut Random, sheet: &Sheet) -> Vec<u8> {
+    let mut goal = if sheet.moves() > 0 && random.once_in(2) {
+        end_wanted(random, sheet)
+    } else {
+        many_wanted(random, sheet)
+    };
+    spoil(random, &mut goal);
+    goal
+}
+
+/// One move's end is wanted and, of other machines, at times some modes of those
+/// that it needs.
+fn end_wanted(random: &mut Random, sheet: &Sheet) -> Vec<u8> {
+    let step = sheet.step(random.below(sheet.moves()));
+    let mut goal: Vec<u8> = (0..sheet.machines())
+        .map(|machine| sheet.all(machine))
+        .collect();
+    goal[step.machine] = 1 << step.to;
+    for guard in step.guards {
+        let machine = guard[0] as usize;
+        if random.once_in(4) {
+            goal[machine] = random.some_of(sheet.all(machine));
+        }
+    }
+    goal
+}
+
+/// Any modes are wanted of any machines.
+fn many_wanted(random: &mut Random, sheet: &Sheet) -> Vec<u8> {
     let length = if random.once_in(2) {
         sheet.machines()
     } else {
@@ -261,9 +293,7 @@ pub fn goal(random: &mut Random, sheet: &Sheet) -> Vec<u8> {
             random.some_of(sheet.all(machine))
         }
     };
-    let mut goal: Vec<u8> = (0..length).map(wanted).collect();
-    spoil(random, &mut goal);
-    goal
+    (0..length).map(wanted).collect()
 }
 
 /// Once in a while changes a byte or the length.
@@ -290,20 +320,127 @@ fn command(random: &mut Random, sheet: &Sheet) -> Command {
     }
 }
 
-/// Everything lent for one round of calls. The plan is mostly the sheet's own,
-/// at times damaged, and the scratch is full of other bytes.
+/// The plan lent with a sheet: mostly its own, else one like it or any other in
+/// shape, at times damaged.
+fn plan(random: &mut Random, bytes: &[u8], sheet: &Sheet) -> Vec<u8> {
+    let mut plan = match (own_plan::<Rust>(bytes), random.below(8)) {
+        (Ok(own), 0..4) => own,
+        (Ok(own), 4..6) => edited(random, sheet, &own),
+        _ => foreign(random, sheet),
+    };
+    match random.below(12) {
+        0 => damage(random, &mut plan),
+        1 => spoil(random, &mut plan),
+        _ => {}
+    }
+    plan
+}
+
+/// The sheet's own plan with some entries changed.
+fn edited(random: &mut Random, sheet: &Sheet, own: &[u8]) -> Vec<u8> {
+    let own = Plan::read(sheet, own).expect("its own plan");
+    let odd = [2, 8, 64][random.below(3)];
+    written(sheet, &own.groups, |group, from, wanted| {
+        if random.once_in(odd) {
+            odd_entry(random)
+        } else {
+            own.entries(group, from)[wanted]
+        }
+    })
+}
+
+/// A plan of the sheet's groups or others, whose entries are mostly moves that
+/// may start; noise where a group has too many modes for a plan.
+fn foreign(random: &mut Random, sheet: &Sheet) -> Vec<u8> {
+    let groups = regrouped(random, sheet);
+    if !tabled(&groups) {
+        return random.byte_run(200);
+    }
+    let starts: Vec<_> = (0..groups.count)
+        .map(|group| starts(sheet, &groups, group))
+        .collect();
+    let odd = [2, 8, 64][random.below(3)];
+    written(sheet, &groups, |group, from, _| {
+        match &starts[group][from][..] {
+            _ if random.once_in(odd) => odd_entry(random),
+            [] => NO_ROUTE,
+            moves => [random.below(8) as u8, moves[random.below(moves.len())]],
+        }
+    })
+}
+
+/// The sheet's own groups, at times some of them swapped or joined.
+fn regrouped(random: &mut Random, sheet: &Sheet) -> Groups {
+    let mut groups = Groups::of_sheet(sheet);
+    for _ in 0..[0, 1, 4][random.below(3)] {
+        let at = random.below(groups.count) as u8;
+        let swap = random.once_in(2);
+        let renumbered = |&number: &u8| match number.checked_sub(at) {
+            Some(0) if swap => at + 1,
+            Some(1) if swap => at,
+            Some(1..) if !swap => number - 1,
+            _ => number,
+        };
+        let numbers: Vec<u8> = groups.of[..sheet.machines()]
+            .iter()
+            .map(renumbered)
+            .collect();
+        let changed = Groups::from_numbers(sheet, &numbers);
+        groups = changed.filter(tabled).unwrap_or(groups);
+    }
+    groups
+}
+
+/// Whether every group is small enough for a table.
+fn tabled(groups: &Groups) -> bool {
+    (0..groups.count).all(|group| groups.size(group) <= MAX_GROUP_MODES)
+}
+
+/// For each mode of a group, the group's moves that may start in it.
+fn starts(sheet: &Sheet, groups: &Groups, group: usize) -> Vec<Vec<u8>> {
+    let mut starts = vec![Vec::new(); groups.size(group) as usize];
+    for (step, number) in sheet.steps().zip(0..) {
+        if groups.of[step.machine] as usize == group {
+            let from = groups.modes_with(sheet, step.machine, 1 << step.from);
+            for mode in bits(from & groups.guarded(sheet, &step, group)) {
+                starts[mode].push(number);
+            }
+        }
+    }
+    starts
+}
+
+/// An entry that hardly fits.
+fn odd_entry(random: &mut Random) -> [u8; 2] {
+    let distance = [0, 1, 254, 255][random.below(4)];
+    let number = [random.below(12) as u8, random.byte()][random.below(2)];
+    [distance, number]
+}
+
+/// Writes a plan, given the entry for a group, its mode and the wanted one.
+fn written(
+    sheet: &Sheet,
+    groups: &Groups,
+    mut entry: impl FnMut(usize, usize, usize) -> [u8; 2],
+) -> Vec<u8> {
+    let numbers = &groups.of[..sheet.machines()];
+    let mut plan = Builder::new().record(GROUP_NUMBERS, numbers);
+    for group in 0..groups.count {
+        let size = groups.size(group) as usize;
+        let entries = (0..size * size).flat_map(|at| entry(group, at / size, at % size));
+        plan = plan.record(TABLE, &entries.collect::<Vec<u8>>());
+    }
+    plan.record(BOUND, &[0; 4]).end()
+}
+
+/// Everything lent for one round of calls. The scratch is full of other bytes.
 pub fn lent(random: &mut Random) -> Lent {
     let bytes = sheet_bytes(random);
     let mut lent = Lent::sheet(&bytes);
     let Ok(sheet) = Sheet::read(&bytes) else {
         return lent;
     };
-    let mut plan = own_plan(&bytes).unwrap_or_else(|_| random.byte_run(200));
-    match random.below(12) {
-        0..3 => damage(random, &mut plan),
-        3 => spoil(random, &mut plan),
-        _ => {}
-    }
+    let plan = plan(random, &bytes, &sheet);
     let scratch = if random.once_in(40) {
         SCRATCH - 1
     } else {

@@ -95,6 +95,17 @@ pub fn dials(number: u8) -> Vec<u8> {
     (0..number).fold(sheet, chained).end()
 }
 
+/// Machines that are off, on or out of order, each turned on once the one
+/// before it is on.
+pub fn chain(number: u8) -> Vec<u8> {
+    let sheet = (0..number).fold(Builder::new(), |sheet, _| sheet.machine(3, 3));
+    let linked = |sheet: Builder, machine: u8| match machine.checked_sub(1) {
+        None => sheet.step([machine, 0, 1, 1], &[]),
+        Some(before) => sheet.step([machine, 0, 1, 1], &[[before, 2]]),
+    };
+    (0..number).fold(sheet, linked).end()
+}
+
 /// Pairs of eight-mode machines, 64 modes to a group, then one-mode machines.
 /// With `rings`, every mode of a group leads to every other.
 pub fn blocks(pairs: u8, singles: usize, rings: bool) -> Vec<u8> {

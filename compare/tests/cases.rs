@@ -1,11 +1,12 @@
-//! The worked cases: the stove, the filter, the dials and the groups of 64.
+//! The worked cases, in both versions: the stove, the filter, the dials and the
+//! groups of 64.
 
-use duty_compare::command::{apply, next_command, Command, Next};
-use duty_compare::plan::plan_length;
+use duty_compare::both::{apply, next_command, own_plan, plan_length, walk};
+use duty_compare::command::{Command, Next};
 use duty_compare::samples::{blocks, dials, filter, stove, Builder};
 use duty_compare::shape::Plan;
 use duty_compare::sheet::Sheet;
-use duty_compare::walk::{bound_of, own_plan, walk};
+use duty_compare::walk::bound_of;
 use duty_compare::{refuse, Reply};
 
 fn bound(sheet: &[u8]) -> Reply<u32> {

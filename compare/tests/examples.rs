@@ -1,12 +1,14 @@
-//! The example kitchens: their bytes, and what is claimed of them.
+//! The example kitchens, in both versions: their bytes, and what is claimed of
+//! them.
 
-use duty_compare::command::{apply, next_command, Next};
+use duty_compare::both::{apply, check_sheet, next_command, own_plan, walk};
+use duty_compare::command::Next;
 use duty_compare::random::Random;
 use duty_compare::refuse;
 use duty_compare::samples::stove;
 use duty_compare::shape::Plan;
-use duty_compare::sheet::{check_sheet, Sheet};
-use duty_compare::walk::{bound_of, own_plan, walk};
+use duty_compare::sheet::Sheet;
+use duty_compare::walk::bound_of;
 
 const KITCHEN: &[u8] = include_bytes!("../../examples/kitchen/sheet.bin");
 

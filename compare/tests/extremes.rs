@@ -1,12 +1,11 @@
-//! Sheets at the edges: the fullest, the longest plan, and numbers that pass
-//! 32 and 64 bits.
+//! Sheets at the edges, in both versions: the fullest, the longest plan, and
+//! numbers that pass 32 and 64 bits.
 
-use duty_compare::plan::plan_length;
+use duty_compare::both::{check_sheet, own_plan, plan_length, walk};
 use duty_compare::samples::{
     blocks, circle, dials, fullest, longest_plan, product, snake, Builder,
 };
-use duty_compare::sheet::check_sheet;
-use duty_compare::walk::{bound_of, own_plan, walk};
+use duty_compare::walk::bound_of;
 use duty_compare::{refuse, Reply};
 
 fn bound(sheet: &[u8]) -> Reply<u32> {

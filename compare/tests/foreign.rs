@@ -1,9 +1,10 @@
-//! Plans that are not the sheet's own: the reply follows from their entries.
+//! Plans that are not the sheet's own, in both versions: the reply follows from
+//! their entries.
 
-use duty_compare::command::{next_command, Command, Next};
+use duty_compare::both::{next_command, own_plan};
+use duty_compare::command::{Command, Next};
 use duty_compare::plan::HERE;
 use duty_compare::samples::{dials, stove, Builder};
-use duty_compare::walk::own_plan;
 use duty_compare::{refuse, Reply};
 
 /// The stove's tables: the board's entries, then fan and burner's.

@@ -1,12 +1,12 @@
-//! The refusal table: an example or more of each number, with its place.
+//! The refusal table, in both versions: an example or more of each number, with
+//! its place.
 
-use duty_compare::command::{apply, next_command, Command};
+use duty_compare::both::{apply, check_sheet, next_command, own_plan, plan, plan_length, walk};
+use duty_compare::command::Command;
 use duty_compare::faults::faulty_sheets;
-use duty_compare::plan::{plan, plan_length, SCRATCH};
+use duty_compare::plan::SCRATCH;
 use duty_compare::refuse;
 use duty_compare::samples::{blocks, dials, filter, stove, stove_records, Builder};
-use duty_compare::sheet::check_sheet;
-use duty_compare::walk::{own_plan, walk};
 
 #[test]
 fn faulty_sheets_are_refused_at_their_record() {

@@ -1,23 +1,33 @@
-//! The Rust version against recorded replies, where they are at hand: in
+//! Both versions against recorded replies, where they are at hand: in
 //! `shared/vectors` beside the repository, or where DUTY_VECTORS says.
 
-use duty_compare::command::{apply, next_command, Command, Next};
-use duty_compare::library;
-use duty_compare::plan::{plan, plan_length};
+use duty_compare::calls::{Call, Lent, Side, Slot};
+use duty_compare::command::{Command, Next};
+use duty_compare::library::Library;
+use duty_compare::version::{Rust, Version};
 use duty_compare::walk::walk;
-use duty_compare::Reply;
+use duty_compare::{refuse, Reply};
 use std::collections::HashMap;
 use std::fs;
-use std::io::Write;
+use std::hint::black_box;
+use std::io::{ErrorKind, Write};
 use std::path::{Path, PathBuf};
 
+/// The folder that DUTY_VECTORS names, which must be there, else the one beside
+/// the repository. None where nothing is shared with it.
 fn folder() -> Option<PathBuf> {
-    let beside = Path::new(env!("CARGO_MANIFEST_DIR")).join("../../shared/vectors");
-    let folder = std::env::var_os("DUTY_VECTORS").map_or(beside, PathBuf::from);
-    if !folder.is_dir() {
-        say(format!("skipped: no vectors at {}", folder.display()));
+    let shared = Path::new(env!("CARGO_MANIFEST_DIR")).join("../../shared");
+    let named = std::env::var_os("DUTY_VECTORS").map(PathBuf::from);
+    if named.is_none() && !shared.exists() {
+        say("skipped: no DUTY_VECTORS, and no shared folder beside the repository".to_string());
         return None;
     }
+    let folder = named.unwrap_or_else(|| shared.join("vectors"));
+    assert!(
+        folder.is_dir(),
+        "no vectors: `{}` is not a folder (DUTY_VECTORS says where they are)",
+        folder.display()
+    );
     Some(folder)
 }
 
@@ -37,127 +47,126 @@ fn hex(text: &str) -> Vec<u8> {
     (0..text.len()).step_by(2).map(pair).collect()
 }
 
-fn to_hex(bytes: &[u8]) -> String {
-    match bytes {
-        [] => "-".to_string(),
-        _ => bytes.iter().map(|byte| format!("{byte:02x}")).collect(),
-    }
-}
-
 fn number<T: std::str::FromStr>(text: &str) -> T {
     text.parse()
         .unwrap_or_else(|_| panic!("not a number: {text}"))
-}
-
-fn said<T>(reply: Reply<T>, say: impl FnOnce(T) -> String) -> String {
-    match reply {
-        Ok(value) => say(value),
-        Err(refusal) => format!("refused {} {}", refusal.number, refusal.place),
-    }
-}
-
-/// The named sheets and plans of the file.
-#[derive(Default)]
-struct Blobs {
-    by_name: HashMap<String, Vec<u8>>,
-}
-
-impl Blobs {
-    fn get(&self, name: &str) -> &[u8] {
-        &self.by_name[name]
-    }
-
-    fn plan(&self, sheet: &str, length: &str, scratch: &str, expected: &str) -> String {
-        let before = vec![0x5A; number(length)];
-        let scratch_before = vec![0xC3; number(scratch)];
-        let (mut buffer, mut scratch) = (before.clone(), scratch_before.clone());
-        let reply = plan(self.get(sheet), &mut buffer, &mut scratch);
-        if reply.is_err() {
-            assert_eq!(
-                (&buffer, &scratch),
-                (&before, &scratch_before),
-                "refused, yet written"
-            );
-        }
-        said(reply, |()| {
-            assert!(scratch.iter().all(|&byte| byte == 0), "scratch left");
-            let name = expected.strip_prefix("blob ").unwrap_or("none");
-            let same = self.by_name.get(name) == Some(&buffer);
-            let other = || format!("another plan {}", to_hex(&buffer));
-            if same {
-                expected.to_string()
-            } else {
-                other()
-            }
-        })
-    }
-
-    fn apply(&self, sheet: &str, state: &str, machine: &str, command: &str) -> String {
-        let before = hex(state);
-        let mut state = before.clone();
-        let command = Command {
-            machine: number(machine),
-            command: number(command),
-        };
-        let reply = apply(self.get(sheet), &mut state, command);
-        if reply.is_err() {
-            assert_eq!(state, before, "refused, yet written");
-        }
-        said(reply, |changed| {
-            let word = if changed { "changed" } else { "same" };
-            format!("{word} {}", to_hex(&state))
-        })
-    }
-
-    fn reply(&self, call: &[&str], expected: &str) -> String {
-        match *call {
-            ["len", sheet] => said(plan_length(self.get(sheet)), |length| length.to_string()),
-            ["plan", sheet, length, scratch] => self.plan(sheet, length, scratch, expected),
-            ["next", sheet, plan, state, goal] => {
-                let next = next_command(self.get(sheet), self.get(plan), &hex(state), &hex(goal));
-                said(next, say_next)
-            }
-            ["apply", sheet, state, machine, command] => self.apply(sheet, state, machine, command),
-            _ => panic!("unknown call {call:?}"),
-        }
-    }
-}
-
-fn say_next(next: Next) -> String {
-    match next {
-        Next::Done => "done".to_string(),
-        Next::Send(Command { machine, command }) => format!("command {machine} {command}"),
-    }
-}
-
-/// The blobs of calls.txt, and its calls with their replies.
-fn recorded(text: &str) -> (Blobs, Vec<(&str, &str)>) {
-    let mut blobs = Blobs::default();
-    for line in text.lines().filter(|line| line.starts_with("blob ")) {
-        let fields = fields(line);
-        blobs.by_name.insert(fields[1].to_string(), hex(fields[2]));
-    }
-    let calls: Vec<_> = text
-        .lines()
-        .filter_map(|line| line.split_once(" = "))
-        .collect();
-    assert!(!calls.is_empty(), "calls.txt holds no calls");
-    (blobs, calls)
 }
 
 fn fields(line: &str) -> Vec<&str> {
     line.split(' ').collect()
 }
 
-#[test]
-fn recorded_calls_have_the_recorded_replies() {
+/// The named sheets and plans of the file.
+struct Blobs {
+    by_name: HashMap<String, Vec<u8>>,
+}
+
+impl Blobs {
+    fn read(text: &str) -> Self {
+        let lines = text.lines().filter(|line| line.starts_with("blob "));
+        let by_name = lines.map(|line| {
+            let fields = fields(line);
+            (fields[1].to_string(), hex(fields[2]))
+        });
+        Blobs {
+            by_name: by_name.collect(),
+        }
+    }
+
+    fn slot(&self, name: &str) -> Slot {
+        Slot::new(&self.by_name[name])
+    }
+
+    /// The name of a recorded call and all that is lent for it.
+    fn lent(&self, call: &str) -> (&'static str, Lent) {
+        let fields = fields(call);
+        let mut lent = Lent::sheet(&self.by_name[fields[1]]);
+        let name = match fields[..] {
+            ["len", _] => "plan_length",
+            ["plan", _, length, scratch] => {
+                lent.plan = Slot::new(&vec![0x5A; number(length)]);
+                lent.scratch = Slot::new(&vec![0xC3; number(scratch)]);
+                "plan"
+            }
+            ["next", _, plan, state, goal] => {
+                lent.plan = self.slot(plan);
+                lent.state = Slot::new(&hex(state));
+                lent.goal = Slot::new(&hex(goal));
+                "next"
+            }
+            ["apply", _, state, machine, command] => {
+                lent.state = Slot::new(&hex(state));
+                lent.command = to(machine, command);
+                "apply"
+            }
+            _ => panic!("unknown call {call}"),
+        };
+        (name, lent)
+    }
+
+    /// A recorded reply; writes what it says was written.
+    fn reply(&self, reply: &str, lent: &mut Lent) -> Reply<u32> {
+        match fields(reply)[..] {
+            ["refused", cause, place] => refuse(number(cause), number(place)),
+            ["blob", plan] => {
+                lent.plan = self.slot(plan);
+                lent.scratch.get_mut().fill(0);
+                Ok(0)
+            }
+            ["done"] => Ok(Next::Done.value()),
+            ["command", machine, command] => Ok(Next::Send(to(machine, command)).value()),
+            [word @ ("changed" | "same"), state] => {
+                lent.state = Slot::new(&hex(state));
+                Ok((word == "changed") as u32)
+            }
+            [length] => Ok(number(length)),
+            _ => panic!("unknown reply {reply}"),
+        }
+    }
+}
+
+fn to(machine: &str, command: &str) -> Command {
+    Command {
+        machine: number(machine),
+        command: number(command),
+    }
+}
+
+/// The calls of calls.txt with their replies.
+fn calls(text: &str) -> Vec<(&str, &str)> {
+    let calls = text.lines().filter_map(|line| line.split_once(" = "));
+    let calls: Vec<_> = calls.collect();
+    assert!(!calls.is_empty(), "calls.txt holds no calls");
+    calls
+}
+
+/// Makes every recorded call in one version.
+fn calls_agree(version: &str, side: fn(&Call) -> Side) {
     let Some(folder) = folder() else { return };
     let text = fs::read_to_string(folder.join("calls.txt")).expect("calls.txt");
-    let (blobs, calls) = recorded(&text);
-    for (call, expected) in &calls {
-        assert_eq!(&blobs.reply(&fields(call), expected), expected, "{call}");
+    let (blobs, calls) = (Blobs::read(&text), calls(&text));
+    for (call, reply) in &calls {
+        let (name, mut lent) = blobs.lent(call);
+        let mut left = lent.clone();
+        let expected = blobs.reply(reply, &mut left);
+        let version = side(Call::named(name).expect("a call"));
+        assert_eq!(version(black_box(&mut lent)), expected, "{call}");
+        assert!(black_box(lent) == left, "{call}: other bytes left");
     }
-    say(format!("{} recorded calls agree", calls.len()));
+    say(format!(
+        "{} recorded calls agree with {version}",
+        calls.len()
+    ));
+}
+
+#[test]
+fn recorded_calls_agree_with_the_rust_version() {
+    calls_agree(Rust::NAME, |call| call.rust);
+}
+
+#[test]
+fn recorded_calls_agree_with_the_library() {
+    calls_agree(Library::NAME, |call| call.library);
 }
 
 /// Every call tests 1 to 8 of its sheet first, so the library's check of the
@@ -166,19 +175,15 @@ fn recorded_calls_have_the_recorded_replies() {
 fn the_library_refuses_recorded_sheets_as_recorded() {
     let Some(folder) = folder() else { return };
     let text = fs::read_to_string(folder.join("calls.txt")).expect("calls.txt");
-    let (blobs, calls) = recorded(&text);
+    let (blobs, calls) = (Blobs::read(&text), calls(&text));
     let mut refused = 0;
-    for (call, expected) in &calls {
-        let reply = said(library::sheet(blobs.get(fields(call)[1])), |_| {
-            String::new()
-        });
-        let cause = expected.strip_prefix("refused ").unwrap_or("9 0");
-        let of_the_sheet = cause
-            .split(' ')
-            .next()
-            .is_some_and(|n| number::<u32>(n) <= 8);
-        assert_eq!(reply, if of_the_sheet { expected } else { "" }, "{call}");
-        refused += u32::from(of_the_sheet);
+    for (call, reply) in &calls {
+        let (_, mut lent) = blobs.lent(call);
+        let cause = Library::sheet(lent.sheet.get()).err();
+        let recorded = blobs.reply(reply, &mut lent);
+        let of_the_sheet = recorded.err().filter(|refusal| refusal.number <= 8);
+        assert_eq!(cause, of_the_sheet, "{call}");
+        refused += cause.is_some() as u32;
     }
     assert!(refused > 0, "calls.txt refuses no sheet");
     say(format!(
@@ -187,41 +192,46 @@ fn the_library_refuses_recorded_sheets_as_recorded() {
     ));
 }
 
-#[test]
-fn the_library_tells_the_recorded_lengths() {
-    let Some(folder) = folder() else { return };
-    let text = fs::read_to_string(folder.join("calls.txt")).expect("calls.txt");
-    let (blobs, calls) = recorded(&text);
-    let mut lengths = 0;
-    for (call, expected) in &calls {
-        if let ["len", sheet] = fields(call)[..] {
-            let reply = library::plan_length(blobs.get(sheet));
-            assert_eq!(
-                &said(reply, |length| length.to_string()),
-                expected,
-                "{call}"
-            );
-            lengths += 1;
-        }
-    }
-    assert!(lengths > 0, "calls.txt asks for no length");
-    say(format!("{lengths} recorded lengths agree with the library"));
+/// Whether a folder has one of the names that the vectors' README gives them.
+fn is_case(path: &Path) -> bool {
+    let name = path.file_name().unwrap_or_default().to_string_lossy();
+    let numbered = |number: &str| !number.is_empty() && number.bytes().all(|b| b.is_ascii_digit());
+    let named = name.starts_with("fixed-") || name.strip_prefix("case-").is_some_and(numbered);
+    named && path.is_dir()
 }
 
-#[test]
-fn recorded_walks_print_the_recorded_text() {
+/// A file's bytes; one that is missing counts as empty.
+fn bytes(path: PathBuf) -> Vec<u8> {
+    match fs::read(&path) {
+        Err(error) if error.kind() == ErrorKind::NotFound => Vec::new(),
+        read => read.unwrap_or_else(|error| panic!("{}: {error}", path.display())),
+    }
+}
+
+/// Walks every recorded case in one version.
+fn walks_agree<V: Version>() {
     let Some(folder) = folder() else { return };
     let mut count = 0;
     for entry in fs::read_dir(folder).expect("the vectors") {
         let path = entry.expect("an entry").path();
-        if path.is_dir() {
-            let read = |name| fs::read(path.join(name)).unwrap_or_default();
+        if is_case(&path) {
+            let read = |name| bytes(path.join(name));
             let expected = fs::read_to_string(path.join("expect.txt")).expect("expect.txt");
-            let printed = walk(&read("sheet.bin"), &read("state.bin"), &read("wish.bin"));
+            let printed = walk::<V>(&read("sheet.bin"), &read("state.bin"), &read("wish.bin"));
             assert_eq!(printed, expected, "{}", path.display());
             count += 1;
         }
     }
     assert!(count > 0, "no case folders");
-    say(format!("{count} recorded walks agree"));
+    say(format!("{count} recorded walks agree with {}", V::NAME));
+}
+
+#[test]
+fn recorded_walks_agree_with_the_rust_version() {
+    walks_agree::<Rust>();
+}
+
+#[test]
+fn recorded_walks_agree_with_the_library() {
+    walks_agree::<Library>();
 }

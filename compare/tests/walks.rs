@@ -1,9 +1,15 @@
-//! Random sheets walked: an attainable goal is reached within the bound.
+//! Random sheets walked in both versions: an attainable goal is reached within
+//! the bound. Then the walks of `examples/walks`, in the Rust version: the
+//! program's own are compared by `run.sh`.
 
-use duty_compare::command::{apply, next_command, Next};
+use duty_compare::both::{apply, next_command, own_plan};
+use duty_compare::command::Next;
 use duty_compare::random::{goal, sheet, state, Random};
 use duty_compare::sheet::Sheet;
-use duty_compare::walk::{bound_of, own_plan};
+use duty_compare::version::Rust;
+use duty_compare::walk::{bound_of, walk};
+use std::fs;
+use std::path::Path;
 
 /// Obeys a plan until it is done; how many commands that took, or none where
 /// the first reply is a refusal.
@@ -45,4 +51,22 @@ fn attainable_goals_are_reached_within_the_bound() {
         }
     }
     assert!(walked > 1000, "only {walked} walks had a command");
+}
+
+/// Walks every folder of `examples/walks`; a missing file counts as empty.
+#[test]
+fn example_walks_print_what_is_expected() {
+    let folder = Path::new(env!("CARGO_MANIFEST_DIR")).join("../examples/walks");
+    let mut count = 0;
+    for entry in fs::read_dir(folder).expect("examples/walks") {
+        let path = entry.expect("an entry").path();
+        if path.is_dir() {
+            let read = |name| fs::read(path.join(name)).unwrap_or_default();
+            let expected = fs::read_to_string(path.join("expect.txt")).expect("expect.txt");
+            let printed = walk::<Rust>(&read("sheet.bin"), &read("state.bin"), &read("wish.bin"));
+            assert_eq!(printed, expected, "{}", path.display());
+            count += 1;
+        }
+    }
+    assert_eq!(count, 8, "example walks");
 }

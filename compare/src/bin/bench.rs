@@ -1,14 +1,15 @@
 //! The benchmark: the proved library and the Rust version on the same inputs.
 //!
 //! bench                               a table of median times
-//! bench list                          the calls and inputs that both have
+//! bench list                          the calls and their inputs
 //! bench repeat SIDE CALL INPUT TIMES  one call so many times, for callgrind
 
 use duty_compare::calls::{Call, Lent, Side, Slot, CALLS};
 use duty_compare::command::Command;
 use duty_compare::plan::SCRATCH;
-use duty_compare::samples::{blocks, dials, fullest, stove};
-use duty_compare::sheet::Sheet;
+use duty_compare::samples::{blocks, chain, dials, fullest, stove};
+use duty_compare::sheet::{Sheet, MAX_MACHINES};
+use duty_compare::version::{Rust, Version};
 use duty_compare::walk::own_plan;
 use duty_compare::Reply;
 use std::hint::black_box;
@@ -18,35 +19,83 @@ use std::time::{Duration, Instant};
 const SAMPLES: usize = 301;
 const SAMPLE: Duration = Duration::from_micros(100);
 
+const KITCHEN: &[u8] = include_bytes!("../../../examples/kitchen/sheet.bin");
+
 struct Input {
     name: &'static str,
+    /// The one call that it is for; none means all of them.
+    only: Option<&'static str>,
     lent: Lent,
 }
 
-fn inputs() -> Vec<Input> {
-    let kitchen = include_bytes!("../../../examples/kitchen/sheet.bin");
-    [
-        ("fullest", fullest()),
-        ("stove", stove()),
-        ("kitchen", kitchen.to_vec()),
-        ("four-of-64", blocks(4, 0, true)),
-        ("five-dials", dials(5)),
-    ]
-    .map(|(name, sheet)| Input {
-        name,
-        lent: prepared(&sheet),
-    })
-    .into()
+impl Input {
+    fn new(name: &'static str, sheet: &[u8]) -> Self {
+        let (only, lent) = (None, prepared(sheet));
+        Input { name, only, lent }
+    }
+
+    fn only(self, call: &'static str) -> Self {
+        let only = Some(call);
+        Input { only, ..self }
+    }
+
+    /// For the next command alone, from a state toward a goal.
+    fn asked(name: &'static str, sheet: &[u8], state: &[u8], goal: &[u8]) -> Self {
+        let mut input = Input::new(name, sheet).only("next");
+        input.lent.state = Slot::new(state);
+        input.lent.goal = Slot::new(goal);
+        input
+    }
+
+    fn serves(&self, call: &Call) -> bool {
+        self.only.is_none_or(|name| name == call.name)
+    }
 }
 
-/// A sheet with its own plan, every machine in mode 0 and wanted in mode 1, and
-/// the command of the first move.
+fn inputs() -> Vec<Input> {
+    let mut inputs = vec![
+        Input::new("fullest", &fullest()),
+        Input::new("stove", &stove()),
+        Input::new("kitchen", KITCHEN),
+        Input::new("four-of-64", &blocks(4, 0, true)),
+        Input::new("five-dials", &dials(5)),
+        Input::new("six-dials", &dials(6)).only("plan"),
+        Input::asked("kitchen-done", KITCHEN, &[0; 20], &[]),
+    ];
+    inputs.extend(chains());
+    inputs
+}
+
+/// The last machine of the longest chain is to be on: attainable, then refused
+/// as 16 (the first is out of order), 17 (the last is to be out of order) and
+/// 18 (the first is to stay off).
+fn chains() -> [Input; 4] {
+    let sheet = chain(MAX_MACHINES as u8);
+    let last = MAX_MACHINES - 1;
+    let (off, mut broken) = ([0; MAX_MACHINES], [0; MAX_MACHINES]);
+    broken[0] = 2;
+    let mut last_on = [3; MAX_MACHINES];
+    last_on[last] = 2;
+    let (mut last_broken, mut first_off) = (last_on, last_on);
+    last_broken[last] = 4;
+    first_off[0] = 1;
+    [
+        Input::asked("chain", &sheet, &off, &last_on),
+        Input::asked("chain-16", &sheet, &broken, &last_on),
+        Input::asked("chain-17", &sheet, &off, &last_broken),
+        Input::asked("chain-18", &sheet, &off, &first_off),
+    ]
+}
+
+/// A sheet with its own plan, or zeros as long where there is none, every
+/// machine in mode 0 and wanted in mode 1, and the command of the first move.
 fn prepared(bytes: &[u8]) -> Lent {
     let sheet = Sheet::read(bytes).expect("a sheet");
+    let length = Rust::plan_length(bytes).unwrap_or(0);
     let goal = vec![2; sheet.machines()];
     let first = sheet.step(0);
     Lent {
-        plan: Slot::new(&own_plan(bytes).unwrap_or_default()),
+        plan: Slot::new(&own_plan::<Rust>(bytes).unwrap_or(vec![0; length as usize])),
         scratch: Slot::new(&[0; SCRATCH]),
         state: Slot::new(&vec![0; sheet.machines()]),
         goal: Slot::new(&goal),
@@ -58,10 +107,11 @@ fn prepared(bytes: &[u8]) -> Lent {
     }
 }
 
-/// Calls so many times, from state 0 each time.
+/// Calls so many times, from the same state each time.
 fn repeat(side: Side, lent: &mut Lent, times: u32) {
+    let state = lent.state.get().to_vec();
     for _ in 0..times {
-        lent.state.get_mut().fill(0);
+        lent.state.get_mut().copy_from_slice(&state);
         let _ = black_box(side(black_box(lent)));
     }
 }
@@ -112,16 +162,19 @@ fn said(reply: Reply<u32>) -> String {
 
 fn row(call: &Call, input: &Input) -> String {
     let reply = said((call.rust)(&mut input.lent.clone()));
-    let start = format!("| {} | {} | {} |", call.name, input.name, reply);
-    match call.library {
-        None => {
-            let rust = medians(&[call.rust], &input.lent)[0];
-            format!("{start} - | {rust:.0} | - |")
-        }
-        Some(library) => {
-            let both = medians(&[library, call.rust], &input.lent);
-            let ratio = both[0] / both[1];
-            format!("{start} {:.0} | {:.0} | {ratio:.2} |", both[0], both[1])
+    let both = medians(&[call.library, call.rust], &input.lent);
+    let ratio = both[0] / both[1];
+    format!(
+        "| {} | {} | {reply} | {:.0} | {:.0} | {ratio:.2} |",
+        call.name, input.name, both[0], both[1]
+    )
+}
+
+/// Does something with each call and each input that serves it.
+fn for_each(act: impl Fn(&Call, &Input)) {
+    for call in &CALLS {
+        for input in inputs().iter().filter(|input| input.serves(call)) {
+            act(call, input);
         }
     }
 }
@@ -129,33 +182,22 @@ fn row(call: &Call, input: &Input) -> String {
 fn table() {
     println!("| call | input | reply | library ns | Rust ns | library / Rust |");
     println!("|---|---|---|---:|---:|---:|");
-    for call in &CALLS {
-        for input in &inputs() {
-            println!("{}", row(call, input));
-        }
-    }
+    for_each(|call, input| println!("{}", row(call, input)));
 }
 
 fn list() {
-    for call in CALLS.iter().filter(|call| call.library.is_some()) {
-        for input in inputs() {
-            println!("{} {}", call.name, input.name);
-        }
-    }
+    for_each(|call, input| println!("{} {}", call.name, input.name));
 }
 
 fn repeat_one(side: &str, call: &str, input: &str, times: &str) {
-    let call = CALLS
-        .iter()
-        .find(|known| known.name == call)
-        .expect("a call");
+    let call = Call::named(call).expect("a call");
     let inputs = inputs();
     let input = inputs
         .iter()
         .find(|known| known.name == input)
         .expect("an input");
     let side = match side {
-        "library" => call.library.expect("a call that the library has"),
+        "library" => call.library,
         _ => call.rust,
     };
     repeat(

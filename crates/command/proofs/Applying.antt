@@ -29,7 +29,7 @@ use Rattle.command.proofs.Acts.{acts-answers, answers-acts, acting-only
 
 module _ (m : Model) (state : List ℕ) (machine command : ℕ) where
   -- the move that is found answers, or none does
-  found-or-none : Answers m state machine command (actingMove m state machine command)
+  pub found-or-none : Answers m state machine command (actingMove m state machine command)
       ⊎ ((actingMove m state machine command ≡ 255) × ((v : ℕ) → Answers m state machine command v → ⊥))
   unfolding actingMove
   found-or-none =
@@ -47,7 +47,7 @@ module _ (m : Model) (state : List ℕ) (machine command : ℕ) where
     answer-acts : actingMove m state machine command ≡ v
     answer-acts = acting-only m valid state machine command v (answer .there) (answers-acts m state machine command v answer)
 
-    answer-moves : stateBy m state machine command ≡ withMode state machine (moveAt m v .to)
+    pub answer-moves : stateBy m state machine command ≡ withMode state machine (moveAt m v .to)
     unfolding stateBy
     answer-moves = rw (answer-acts, ne-eqb v 255 (omega (arith, answer .there, valid .few-moves)))
 
@@ -62,7 +62,7 @@ module _ (m : Model) (state : List ℕ) (machine command : ℕ) where
         valid .moves-valid v (answer .there) .moves-on
         (answer .its-from ∙ sym (ap (λ s. modeOf s machine) (sym answer-moves ∙ e)) ∙ answer-there sound)
 
-  none-moves : actingMove m state machine command ≡ 255 → stateBy m state machine command ≡ state
+  pub none-moves : actingMove m state machine command ≡ 255 → stateBy m state machine command ≡ state
   unfolding stateBy
   none-moves e = rw e
 

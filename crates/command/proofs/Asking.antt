@@ -5,7 +5,7 @@ use Prim.Native.Nat.{ℕ}
 use mathlib.Core.Path.{_≡_, sym, _∙_}
 use mathlib.Core.List.{List, _++_}
 use mathlib.Core.Bool.{true, false}
-use Rattle.common.specs.Reply.{given, refused, clear, unless, andThen}
+use Rattle.common.specs.Reply.{Reply, given, refused, clear, unless, andThen}
 use Rattle.common.proofs.Bools.{and-intro, and-left, and-right, not-of-true, not-of-false}
 use Rattle.common.proofs.Reply.{unless-clear, unless-first, unless-later}
 use Rattle.common.proofs.Clear.{clear-each, clear-append, unless-append-clear}
@@ -32,6 +32,14 @@ module _ (m : Model) (plan state goal : List ℕ) where
         and-right (clear (stateFaults m state ++ goalFaults m goal)) _ both,
       )
 
+  -- where 13 and 14 pass, 16 to 18 alone are left
+  pub refusals-left : {A : Type 0} (r : Reply A) → clear (stateFaults m state) ≡ true → clear (goalFaults m goal) ≡ true
+      → unless (goalRefusals m plan state goal) r ≡ unless (attainFaults m plan state (goalMasks m goal)) r
+  unfolding goalRefusals
+  refusals-left r state-good goal-good =
+      unless-append-clear (stateFaults m state ++ goalFaults m goal) _ r
+      (clear-append (stateFaults m state) (goalFaults m goal) ∙ and-intro state-good goal-good)
+
 -- a call whose sheet passes 1 to 8
 module _ (sheet plan state goal : List ℕ) (d : Parsed) (parses : parse sheet ≡ given d) where
   pub misshapen-reply : wellShaped (d .model) plan ≡ false → nextReply sheet plan state goal ≡ refused 15 0
@@ -54,12 +62,9 @@ module _ (sheet plan state goal : List ℕ) (d : Parsed) (parses : parse sheet �
   pub next-reply : nextReply sheet plan state goal
       ≡ unless (attainFaults (d .model) plan state (goalMasks (d .model) goal))
       (fulfil (d .model) plan state (goalMasks (d .model) goal) (groupCount (groupsIn (d .model) plan)))
-  unfolding goalRefusals
   next-reply =
-      let before = stateFaults (d .model) state ++ goalFaults (d .model) goal in
       shaped-reply sheet plan state goal d parses shaped
-      ∙ unless-append-clear before (attainFaults (d .model) plan state (goalMasks (d .model) goal)) _
-      (clear-append (stateFaults (d .model) state) (goalFaults (d .model) goal) ∙ and-intro state-good goal-good)
+      ∙ refusals-left (d .model) plan state goal _ state-good goal-good
 
   -- and where they do not apply, fulfilling the goal replies
   pub next-fulfils : clear (attainFaults (d .model) plan state (goalMasks (d .model) goal)) ≡ true

@@ -30,7 +30,7 @@ use Rattle.command.specs.Goal.{Masks, anyMode, guardMasks, met, allowed}
 use Rattle.command.specs.Attainable.{present, liveGroup}
 use Rattle.command.specs.Next.{holdsInside, holdsOutside}
 use Rattle.command.proofs.Shape.{Sound, groups-length, shape-first}
-use Rattle.command.proofs.Guards.{full-byte, find-guard, mask-inside, mask-outside, mask-free}
+use Rattle.command.proofs.Guards.{full-byte, mask-inside, mask-outside, mask-free, mask-guard}
 use Rattle.plan.proofs.Named.{moves-below, moves-group}
 
 -- machine by machine, and guard by guard
@@ -116,9 +116,7 @@ module _ (m : Model) (valid : Valid m) (plan : List ℕ) (shaped : wellShaped m 
     -- the mask of a guard on another group
     guard-mask : (g : Guard) → List·Memᴰ g guards → (groupOf own (g .machine) ≡ k → ⊥)
         → getD needs (g .machine) anyMode ≡ g .mask
-    guard-mask g l n =
-        mask-outside m own k (moveAt m v) (g .machine) (guard-there g l) n
-        ∙ ap (λ x. x .mask) (find-guard own-valid (guard (g .machine) anyMode) l)
+    guard-mask g l n = mask-guard own k own-valid l (guard-there g l) n
 
     -- a mode that is allowed meets the needs on its group
     allowed-meets : (a q : ℕ) → (a ≡ k → ⊥) → allowed m own needs a q ≡ true → meets m own a (moveAt m v) q ≡ true
@@ -175,7 +173,9 @@ module _ (m : Model) (valid : Valid m) (plan : List ℕ) (shaped : wellShaped m 
           rw t (ap (bit (g .mask)) (sym (mode-present state sound a (g .machine) inside))))
           (λ f. rw f))
 
-      met-holds : (a : ℕ) → (a ≡ k → ⊥) → met own needs state a ≡ holdsInside m plan state a (moveAt m v)
+      pub met-holds : (a : ℕ) → (a ≡ k → ⊥)
+          → met (groupsIn m plan) (guardMasks m (groupsIn m plan) k (moveAt m v)) state a
+          ≡ holdsInside m plan state a (moveAt m v)
       met-holds a n = met-allowed state sound needs a ∙ needs-allowed a _ n ∙ sym (holds-meets a)
 
       pub needs-hold : holdsOutside m plan state k (moveAt m v) ≡ true → (a : ℕ)

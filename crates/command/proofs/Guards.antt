@@ -69,3 +69,11 @@ module _ (m : Model) (groups : Grouping) (k : ℕ) (v : Move) (i : ℕ) (there :
   pub mask-free : (groupOf groups i ≡ k → ⊥) → any (λ g. eqb (g .machine) i) (v .guards) ≡ false
       → getD (guardMasks m groups k v) i anyMode ≡ 255
   mask-free n none = mask-outside n ∙ ap (λ g. g .mask) (find-none _ (v .guards) (guard i anyMode) none)
+
+-- the mask of a guard on another group
+pub mask-guard : {m : Model} (groups : Grouping) (k : ℕ) {v : Move} → ValidMove m v → {g : Guard} → List·Memᴰ g (v .guards)
+    → g .machine < machineCount m → (groupOf groups (g .machine) ≡ k → ⊥)
+    → getD (guardMasks m groups k v) (g .machine) anyMode ≡ g .mask
+mask-guard {m} groups k {v} valid {g} l there n =
+    mask-outside m groups k v (g .machine) there n
+    ∙ ap (λ x. x .mask) (find-guard valid (guard (g .machine) anyMode) l)

@@ -9,7 +9,7 @@ use native.Mathlib.Nat.{not-suc-le-zero, eq-or-lt-of-le, le-of-suc-le-suc}
 use native.Mathlib.Omega.{arith}
 use borrow.Author.Tests.{ltb-true, lt-ltb, le-ltb}
 use Rattle.common.specs.Lists.{find}
-use Rattle.common.specs.Reply.{Reply, Fault, clear, unless}
+use Rattle.common.specs.Reply.{Reply, Fault, fault, clear, unless}
 use Rattle.common.proofs.Bools.{by-cases, true-false, not-of-true, not-of-false}
 use Rattle.common.proofs.Clear.{unless-append-clear, unless-append-decides}
 use Rattle.sheet.specs.Model.{Model}
@@ -69,6 +69,13 @@ highest-lower p other h =
       none-above = λ b l k. h .none-above b l (omega arith);
     }
 
+-- there is but one
+highest-same : (p : ℕ → Bool) {n a b : ℕ} → Highest p n a → Highest p n b → a ≡ b
+highest-same p {a = a} {b = b} h k =
+    let up : ¬ (a < b) = λ l. true-false (k .has) (h .none-above b l (k .below)) in
+    let down : ¬ (b < a) = λ l. true-false (h .has) (k .none-above a l (h .below)) in
+    omega arith
+
 -- causes listed from the highest number down: those of the highest number that has one decide
 pub unless-highest : {A : Type 0} (f : ℕ → List Fault) (n : ℕ) {a : ℕ} (r : Reply A)
     → Highest (λ k. not (clear (f k))) n a → unless (flatMap f (downTo n)) r ≡ unless (f a) r
@@ -89,6 +96,18 @@ unless-highest f (suc n) {a} r h =
 module _ (m : Model) (plan : List ℕ) (number : ℕ) (p : ℕ → Bool) where
   abbrev count : ℕ
   count = groupCount (groups m plan)
+
+  -- there is such a group: the cause stands at the smallest machine of the highest
+  pub fault-at : {a : ℕ} → Highest p (groupCount (groups m plan)) a
+      → faultOf m plan number p ≡ fault number (smallestMember (groups m plan) a) true
+  unfolding faultOf highest
+  fault-at {a} h =
+      ⊎-elim
+      (λ r.
+      let e : find p (downTo count) count ≡ a = highest-same p r h in
+      rw e (ap (fault number (smallestMember (groups m plan) a)) (lt-ltb a count (h .below))))
+      (λ r. absurd (true-false (h .has) (r .1 _ (h .below))))
+      (find-down p count count)
 
   -- it applies: it stands at the smallest machine of the highest-numbered group with the property
   pub fault-place : faultOf m plan number p .applies ≡ true

@@ -28,7 +28,7 @@ use Rattle.command.proofs.Asking.{refusals-parts, next-fulfils}
 module _ (m : Model) (plan state : List ℕ) where
   -- What the method picks is replied
 
-  fulfil-all-met : (masks : Masks) (n : ℕ) → ((k : ℕ) → k < n → met (groups m plan) masks state k ≡ true)
+  pub fulfil-all-met : (masks : Masks) (n : ℕ) → ((k : ℕ) → k < n → met (groups m plan) masks state k ≡ true)
       → fulfil m plan state masks n ≡ given done
   fulfil-all-met masks zero h = Following.fulfil-none m plan state masks
   fulfil-all-met masks (suc n) h =
@@ -39,11 +39,11 @@ module _ (m : Model) (plan state : List ℕ) where
   lowered l h = record { below = l; unmet = h .unmet; above-met = λ j a b. h .above-met j a (omega arith) }
 
   -- fulfilling needs in the groups below k
-  abbrev fulfilBelow : ℕ → Masks → Reply Next
+  abbrev pub fulfilBelow : ℕ → Masks → Reply Next
   fulfilBelow k needs = fulfil m plan state needs k
 
   -- the groups above the highest unmet one are passed over
-  fulfil-highest : {masks : Masks} (n : ℕ) {k : ℕ} → HighestUnmet m plan state masks n k
+  pub fulfil-highest : {masks : Masks} (n : ℕ) {k : ℕ} → HighestUnmet m plan state masks n k
       → fulfil m plan state masks n ≡ followBy m plan state (fulfilBelow k) masks k
   fulfil-highest zero h = absurd (not-suc-le-zero (h .below))
   fulfil-highest {masks} (suc n) {k} h =

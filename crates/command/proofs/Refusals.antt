@@ -30,10 +30,10 @@ module _ (m : Model) (plan state : List ℕ) (masks : Masks) where
   count = groupCount (groups m plan)
 
   -- the causes of one group: none where it is met
-  abbrev causesOf : ℕ → List Fault
+  abbrev pub causesOf : ℕ → List Fault
   causesOf k = cond (met (groups m plan) masks state k) [] (groupFaults m plan state masks k)
 
-  causes-are : (k : ℕ) → met (groups m plan) masks state k ≡ false → causesOf k ≡ groupFaults m plan state masks k
+  pub causes-are : (k : ℕ) → met (groups m plan) masks state k ≡ false → causesOf k ≡ groupFaults m plan state masks k
   causes-are k f = cond-false _ _ f
 
   causes-unmet : (k : ℕ) → clear (causesOf k) ≡ false → met (groups m plan) masks state k ≡ false

@@ -1,6 +1,6 @@
 -- What 13 and the shape of 15 tell: a state's modes are there, each machine has a group, and the moves of a group.
 -- Assumes nothing.
-use Prim.Native.Nat.{ℕ, _<_}
+use Prim.Native.Nat.{ℕ, _≤_, _<_}
 use mathlib.Core.Path.{_≡_}
 use mathlib.Core.List.{List, List·Memᴰ}
 use mathlib.Core.Bool.{true}
@@ -21,6 +21,7 @@ use Rattle.plan.specs.Modes.{Fits}
 use Rattle.plan.specs.Reading.{groupsIn, gapless, needsFirst, wellShaped}
 use Rattle.plan.proofs.ShapeTests.{shape-tests, numbers-long}
 use Rattle.plan.proofs.Named.{group-below-count, moves-below, moves-group}
+use Rattle.plan.proofs.NumbersUsed.{gapless-count}
 use Rattle.command.specs.State.{modes, absentMode, stateFaults}
 
 -- a state that passes 13
@@ -60,6 +61,10 @@ module _ (m : Model) (valid : Valid m) (plan : List ℕ) (shaped : wellShaped m 
 
   pub group-below : (i : ℕ) → i < machineCount m → groupOf (groupsIn m plan) i < groupCount (groupsIn m plan)
   group-below i h = group-below-count (groupsIn m plan) i (omega (arith, groups-length))
+
+  pub few-groups : groupCount (groupsIn m plan) ≤ 32
+  few-groups =
+      omega (arith, groups-length, gapless-count (groupsIn m plan) (shape-gapless m plan shaped), valid .few-machines)
 
   pub move-below : (k v : ℕ) → List·Memᴰ v (movesOf m (groupsIn m plan) k) → k < groupCount (groupsIn m plan)
   move-below k v h =

@@ -38,7 +38,7 @@ use Rattle.command.proofs.Asking.{misshapen-reply, shaped-reply}
 
 -- One machine or byte
 module _ (m : Model) where
-  present-exactly : (state : List ℕ) (i : ℕ) → (absentMode m state i ≡ false) ↔ Present m state i
+  pub present-exactly : (state : List ℕ) (i : ℕ) → (absentMode m state i ≡ false) ↔ Present m state i
   unfolding absentMode
   present-exactly state i = (λ f. leb-false _ _ f, λ l. lt-leb _ _ l)
 
@@ -85,11 +85,11 @@ first-wrong-refuses number p n rest r exactly {i} first =
 
 -- 13, with other causes behind it
 module _ {A : Type 0} (m : Model) (state : List ℕ) (rest : List Fault) (r : Reply A) where
-  wrong-length : (length state ≡ machineCount m → ⊥) → unless (stateFaults m state ++ rest) r ≡ refused 13 255
+  pub wrong-length : (length state ≡ machineCount m → ⊥) → unless (stateFaults m state ++ rest) r ≡ refused 13 255
   unfolding stateFaults
   wrong-length n = unless-first _ _ r (not-of-false (ne-eqb _ _ n))
 
-  wrong-mode : {i : ℕ} → length state ≡ machineCount m → FirstWrong (Present m state) (machineCount m) i
+  pub wrong-mode : {i : ℕ} → length state ≡ machineCount m → FirstWrong (Present m state) (machineCount m) i
       → unless (stateFaults m state ++ rest) r ≡ refused 13 i
   unfolding stateFaults
   wrong-mode e first =

@@ -26,17 +26,17 @@ use Rattle.command.proofs.Arrival.{arrival}
 -- One turn
 
 module _ (sheet plan goal : List ℕ) (bound n count : ℕ) (state : List ℕ) where
-  obey-done : nextReply sheet plan state goal ≡ given done
+  pub obey-done : nextReply sheet plan state goal ≡ given done
       → obey sheet plan goal bound (suc n) count state ≡ finished count bound ∷ []
   unfolding obey
   obey-done e = rw (e, obey)
 
-  obey-stops : {number place : ℕ} → nextReply sheet plan state goal ≡ refused number place
+  pub obey-stops : {number place : ℕ} → nextReply sheet plan state goal ≡ refused number place
       → obey sheet plan goal bound (suc n) count state ≡ stopped number place ∷ []
   unfolding obey
   obey-stops e = rw (e, obey)
 
-  obey-sends : {i c : ℕ} → nextReply sheet plan state goal ≡ given (command i c)
+  pub obey-sends : {i c : ℕ} → nextReply sheet plan state goal ≡ given (command i c)
       → obey sheet plan goal bound (suc n) count state
       ≡ sent i c ∷ obey sheet plan goal bound n (count + 1) (stateAfter (applyReply sheet state i c) state)
   unfolding obey

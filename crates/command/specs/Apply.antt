@@ -44,6 +44,10 @@ pub record Applied : Type 0 where
   pub move : ℕ
   pub state : List ℕ
 
+abbrev pub appliedBy : Model → List ℕ → ℕ → ℕ → Applied
+appliedBy m state machine command =
+    record { move = actingMove m state machine command; state = stateBy m state machine command }
+
 -- whether a machine changed
 abbrev pub changed : Applied → Bool
 changed a = ltb (a .move) noneActs
@@ -53,7 +57,7 @@ unfoldable pub applyReply : List ℕ → List ℕ → ℕ → ℕ → Reply Appl
 applyReply sheet state machine command =
     andThen (parse sheet) (λ d.
     unless (stateFaults (d .model) state)
-    (given (record { move = actingMove (d .model) state machine command; state = stateBy (d .model) state machine command })))
+    (given (appliedBy (d .model) state machine command)))
 
 -- what applying leaves in the lent state
 abbrev pub stateAfter : Reply Applied → List ℕ → List ℕ

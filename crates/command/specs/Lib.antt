@@ -1,3 +1,4 @@
+pub mod Advised
 pub mod Ancestors
 pub mod Apply
 pub mod Applying
@@ -7,12 +8,15 @@ pub mod Cases
 pub mod Covered
 pub mod Examples
 pub mod Goal
+pub mod Lookup
 pub mod Meaning
 pub mod Method
 pub mod Next
+pub mod Question
 pub mod Run
 pub mod State
 pub mod TurnedDown
 pub mod Uncovered
 pub mod Walk
 pub mod Walked
+pub mod Walking

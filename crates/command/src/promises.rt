@@ -11,6 +11,7 @@ ghost use Rattle.command.specs.Method.{MethodFollowed};
 ghost use Rattle.command.specs.TurnedDown.{GoalPasses, SheetBefore, StatePasses, TurnedDown};
 ghost use Rattle.command.specs.Uncovered.{UncoveredRefused};
 ghost use Rattle.command.specs.Walked.{WalksRight};
+ghost use Rattle.command.specs.Walking.{TurnsRight};
 
 // Cases 1 to 8 of document 01 hold of the definitions, and so do the rows for what they leave out.
 pub fn cases_hold()
@@ -95,4 +96,9 @@ pub fn every_run_arrives()
 // The walk prints the lines of obeying its own commands, to the end.
 pub fn walks_are_right()
     ensures { λ _. ⌜ WalksRight ⌝ }
+{}
+
+// Planning into a buffer that is long enough begins the walk, and each turn gives its next line.
+pub fn turns_are_right()
+    ensures { λ _. ⌜ ((sheet state goal : List ℕ) → TurnsRight sheet state goal) ⌝ }
 {}

@@ -1,13 +1,15 @@
--- What the replies of reading a sheet and of the plan's length say, as words.
+-- What the replies of each call say, as words.
 -- Assumes nothing.
 use Prim.Native.Nat.{ℕ, _+_, _*_, _≤_}
 use mathlib.Core.Path.{_≡_, refl, sym, ap, subst, _∙_}
 use mathlib.Core.List.{List}
+use mathlib.Core.Bool.{Bool, cond}
 use native.Mathlib.Omega.{arith}
 use Rattle.common.specs.Reply.{Reply, given, refused}
 use Rattle.common.proofs.Reply.{given-not-refused}
 use Rattle.sheet.specs.declared.index.Sheet.{Sheet}
 use Rattle.sheet.specs.declared.index.Reading.{Reading}
+use Rattle.sheet.specs.declared.index.Machine.{Machine}
 use Rattle.sheet.specs.declared.refusal.Cause.{Cause}
 use Rattle.sheet.specs.declared.refusal.Verdict.the-variants.{Accepted, Refused as Turned}
 use Rattle.sheet.specs.Refusal.{numberOf}
@@ -26,7 +28,25 @@ use Rattle.plan.specs.Planning.{lengthReply, planReply}
 use Rattle.plan.specs.Making.{plannedOf, toldOf}
 use Rattle.plan.specs.Measured.{measuredOf}
 use Rattle.plan.proofs.SheetLength.{length-near, plan-near}
-use Rattle.panel.specs.Words.{wordOf, sheetReply, doneReply}
+use Rattle.command.specs.declared.method.Advice.{Advice}
+use Rattle.command.specs.declared.method.Advice.the-variants.{Done, Send, Refused as Unadvised}
+use Rattle.command.specs.declared.acting.Change.{Change}
+use Rattle.command.specs.declared.acting.Change.the-variants.{Changed, Unchanged, TurnedDown}
+use Rattle.command.specs.Next.{nextReply}
+use Rattle.command.specs.Apply.{Applied, changed, applyReply}
+use Rattle.command.specs.Advised.{adviceSays, changeSays, changeReply}
+use Rattle.command.proofs.Near.{next-near, apply-near}
+use Rattle.panel.specs.Words.{wordOf, sheetReply, doneReply, commandReply, changedReply}
+
+-- a reply that is told in part: a refusal is told whole
+refused-told : {A B : Type 0} (f : Reply A → Reply B) (g : A → B) → ((a : A) → f (given a) ≡ given (g a))
+    → ((n p : ℕ) → f (refused n p) ≡ refused n p) → (q : Reply A) {n p : ℕ} → refused n p ≡ f q → q ≡ refused n p
+refused-told f g is-given stays (given a) e = absurd (given-not-refused (sym (e ∙ is-given a)))
+refused-told f g is-given stays (refused number place) {n} {p} e =
+    let whole = e ∙ stays number place in
+    let i : number ≡ n = cc in
+    let j : place ≡ p = cc in
+    rw (i, j)
 
 -- the counts of an index are small
 pub record Few (x : Sheet) : Type 0 where
@@ -85,17 +105,60 @@ module _ (s : List ℕ) (buffer scratch : ℕ) (r : Planned) (e : plannedOf r �
 
   module _ (cause : Cause) (place : ℕ) (a : r ≡ Unplanned cause place) where
     unplanned : planReply s buffer scratch ≡ refused (numberOf cause) place
-    unplanned = go (planReply s buffer scratch) (ap plannedOf (sym a) ∙ e)
-      where
-        go : (q : Reply (List ℕ)) → refused (numberOf cause) place ≡ toldOf q → q ≡ refused (numberOf cause) place
-        go (given plan) h = absurd (given-not-refused (sym h))
-        go (refused number at) h =
-            let n : number ≡ numberOf cause = cc in
-            let p : at ≡ place = cc in
-            rw (n, p)
+    unplanned = refused-told toldOf (λ plan. tt) (λ plan. refl) (λ n p. refl) _ (ap plannedOf (sym a) ∙ e)
 
     pub unplanned-word : 4294967296 * numberOf cause + place ≡ wordOf (doneReply (planReply s buffer scratch))
     unplanned-word = rw unplanned
 
     pub unplanned-near : place ≤ 6196
     unplanned-near = plan-near s buffer scratch unplanned
+
+module _ (s plan state goal : List ℕ) (r : Advice) (e : adviceSays r ≡ nextReply s plan state goal) where
+  abbrev adviceWord : ℕ
+  adviceWord = wordOf (commandReply (nextReply s plan state goal))
+
+  -- the word of a goal that is reached is 0, and that of a command holds the machine and the byte
+  pub done-word : r ≡ Done → 0 ≡ adviceWord
+  done-word a = ap (λ q. wordOf (commandReply q)) (ap adviceSays (sym a) ∙ e)
+
+  pub command-word : (machine : Machine) (byte : ℕ) → r ≡ Send machine byte → 65536 + 256 * machine .0 + byte ≡ adviceWord
+  command-word machine byte a = ap (λ q. wordOf (commandReply q)) (ap adviceSays (sym a) ∙ e)
+
+  module _ (cause : Cause) (place : ℕ) (a : r ≡ Unadvised cause place) where
+    unadvised : refused (numberOf cause) place ≡ nextReply s plan state goal
+    unadvised = ap adviceSays (sym a) ∙ e
+
+    pub unadvised-word : 4294967296 * numberOf cause + place ≡ adviceWord
+    unadvised-word = ap (λ q. wordOf (commandReply q)) unadvised
+
+    pub unadvised-near : place ≤ 6196
+    unadvised-near = next-near s plan state goal (sym unadvised)
+
+module _ (s state : List ℕ) (machine byte : ℕ) (r : Change)
+    (e : changeSays r ≡ changeReply (applyReply s state machine byte)) where
+  abbrev changeWord : ℕ
+  changeWord = wordOf (changedReply (applyReply s state machine byte))
+
+  -- the word of a change is 1, and that of none 0
+  bit-word : (b : Bool) → given b ≡ changeSays r → cond b 1 0 ≡ changeWord
+  bit-word b a = go (applyReply s state machine byte) (a ∙ e)
+    where
+      go : (q : Reply Applied) → given b ≡ changeReply q → cond b 1 0 ≡ wordOf (changedReply q)
+      go (given x) h = let same : b ≡ changed x = cc in rw same
+      go (refused number place) h = absurd (given-not-refused h)
+
+  pub changed-word : r ≡ Changed → 1 ≡ changeWord
+  changed-word a = bit-word _ (ap changeSays (sym a))
+
+  pub unchanged-word : r ≡ Unchanged → 0 ≡ changeWord
+  unchanged-word a = bit-word _ (ap changeSays (sym a))
+
+  module _ (cause : Cause) (place : ℕ) (a : r ≡ TurnedDown cause place) where
+    unapplied : applyReply s state machine byte ≡ refused (numberOf cause) place
+    unapplied = refused-told changeReply changed (λ x. refl) (λ n p. refl) _ (ap changeSays (sym a) ∙ e)
+
+    pub unapplied-word : 4294967296 * numberOf cause + place ≡ changeWord
+    unapplied-word = rw unapplied
+
+    pub unapplied-near : place ≤ 6196
+    unapplied-near = apply-near s state machine byte unapplied

@@ -1,9 +1,12 @@
 -- The 64-bit replies of the C interface: above the refusal's number, or 0; below its place, or the value.
 use Prim.Native.Nat.{ℕ, _+_, _*_}
 use mathlib.Core.List.{List}
+use mathlib.Core.Bool.{cond}
 use Rattle.common.specs.Reply.{Reply, given, refused}
 use Rattle.sheet.specs.Model.{machineCount, moveCount}
 use Rattle.sheet.specs.Parse.{Parsed}
+use Rattle.command.specs.Next.{Next, done, command}
+use Rattle.command.specs.Apply.{Applied, changed}
 
 abbrev pub wordOf : Reply ℕ → ℕ
 wordOf (given value) = value
@@ -18,3 +21,14 @@ sheetReply (refused number place) = refused number place
 abbrev pub doneReply : Reply (List ℕ) → Reply ℕ
 doneReply (given plan) = given 0
 doneReply (refused number place) = refused number place
+
+-- next command: 0 for done, else 65536 + 256 × machine + command
+abbrev pub commandReply : Reply Next → Reply ℕ
+commandReply (given done) = given 0
+commandReply (given (command machine byte)) = given (65536 + 256 * machine + byte)
+commandReply (refused number place) = refused number place
+
+-- applying: 1 if a machine changed, else 0
+abbrev pub changedReply : Reply Applied → Reply ℕ
+changedReply (given a) = given (cond (changed a) 1 0)
+changedReply (refused number place) = refused number place

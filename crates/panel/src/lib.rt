@@ -1,6 +1,9 @@
 // The C interface: exported functions that put replies into 64 bits. Nothing is decided here.
+use command::acting::Change;
+use command::method::Advice;
 use plan::making::Planned;
 use plan::measure::Length;
+use sheet::index::Machine;
 use sheet::refusal::Cause;
 use sheet::refusal::Verdict;
 ghost use mathlib.Core.Path.{_≡_};
@@ -9,7 +12,9 @@ ghost use Rattle.sheet.specs.Refusal.{numberOf};
 ghost use Rattle.sheet.specs.Parse.{parse};
 ghost use lib.ListN.{length};
 ghost use Rattle.plan.specs.Planning.{lengthReply, planReply, bufferAfter, scratchAfter};
-ghost use Rattle.panel.specs.Words.{wordOf, sheetReply, doneReply};
+ghost use Rattle.command.specs.Next.{nextReply};
+ghost use Rattle.command.specs.Apply.{applyReply, stateAfter};
+ghost use Rattle.panel.specs.Words.{wordOf, sheetReply, doneReply, commandReply, changedReply};
 
 // The word of a refusal.
 fn refusal(cause: Cause, place: usize) -> u64
@@ -60,5 +65,34 @@ pub extern "C" fn duty_plan(file: &[u8], buffer: &mut [u8], scratch: &mut [u8]) 
     match planned {
         Planned::Written => 0,
         Planned::Refused(cause, place) => refusal(cause, place),
+    }
+}
+
+// The next command for a sheet, a plan, a state and a goal: 0 for done, or 65536 + 256 × machine + command, or the refusal.
+#[no_mangle]
+pub extern "C" fn duty_next(file: &[u8], plan: &[u8], state: &[u8], goal: &[u8]) -> u64
+    ensures { λ r. ⌜ r ≡ wordOf (commandReply
+        (nextReply (now (file .entry)) (now (plan .entry)) (now (state .entry)) (now (goal .entry)))) ⌝ }
+{
+    let advice = command::advising::next(file, plan, state, goal);
+    match advice {
+        Advice::Done => 0,
+        Advice::Send(machine, byte) => 65536 + 256 * (machine.0 as u64) + byte as u64,
+        Advice::Refused(cause, place) => refusal(cause, place),
+    }
+}
+
+// Applies a command to a state: 1 if a machine changed, else 0, or the refusal.
+#[no_mangle]
+pub extern "C" fn duty_apply(file: &[u8], state: &mut [u8], machine: u8, byte: u8) -> u64
+    ensures reply { λ r. ⌜ r ≡ wordOf (changedReply (applyReply (now (file .entry)) (now (state .entry)) machine byte)) ⌝ }
+    ensures left { λ _. ⌜ now (state .exit)
+        ≡ stateAfter (applyReply (now (file .entry)) (now (state .entry)) machine byte) (now (state .entry)) ⌝ }
+{
+    let change = command::acting::apply(file, state, Machine(machine), byte);
+    match change {
+        Change::Changed => 1,
+        Change::Unchanged => 0,
+        Change::TurnedDown(cause, place) => refusal(cause, place),
     }
 }

@@ -27,7 +27,9 @@ pub mod LengthLaws
 pub mod Limits
 pub mod LinkedGraph
 pub mod MachineDigits
+pub mod MarkLoop
 pub mod Marking
+pub mod MemberLoop
 pub mod ModeDigits
 pub mod Modes
 pub mod ModesRight
@@ -35,6 +37,7 @@ pub mod MoveLinks
 pub mod MoveTurns
 pub mod MovesLinking
 pub mod Named
+pub mod NamedAny
 pub mod NamedGroups
 pub mod NamedLoop
 pub mod NeedLoop
@@ -80,9 +83,11 @@ pub mod TableStarts
 pub mod TableWrites
 pub mod Tables
 pub mod Together
+pub mod TurnsLent
 pub mod Usable
 pub mod UsableByEntries
 pub mod UsableUpto
 pub mod WeightLoop
+pub mod WithinModes
 pub mod Words
 pub mod WritingLoops

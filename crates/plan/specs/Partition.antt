@@ -1,10 +1,10 @@
 -- How the code keeps the groups of given numbers.
-use Prim.Native.Nat.{ℕ, _<_}
+use Prim.Native.Nat.{ℕ, _≤_, _<_}
 use mathlib.Core.Path.{_≡_}
 use mathlib.Core.List.{List, map}
 use mathlib.Core.Bool.{not, _&&_}
 use lib.ListN.{length, getD}
-use lib.Dec.{eqb}
+use lib.Dec.{eqb, ltb}
 use Rattle.common.specs.Bits.{bit}
 use Rattle.common.specs.Lists.{upTo, any, filter, pad}
 use Rattle.sheet.specs.declared.index.Sheet.{Sheet}
@@ -39,6 +39,16 @@ countedMoves m groups counted k = filter (λ v. not (eqb (getD counted v 0) 0)) 
 pub record NamedSets (m : Model) (groups : Grouping) (counted sets : List ℕ) : Type 0 where
   pub bits : (k a : ℕ) → k < 32
       → bit (getD sets k 0) a ≡ any (eqb a) (namedOutside m groups k (countedMoves m groups counted k))
+
+-- for each group, the set of its machines
+pub record MemberSets (groups : Grouping) (sets : List ℕ) : Type 0 where
+  pub bits : (k i : ℕ) → k < 32 → bit (getD sets k 0) i ≡ (ltb i (length groups) && eqb (groupOf groups i) k)
+
+-- for each of at most 32 groups, the set of the outside groups that its moves name
+pub record OthersNamed (m : Model) (groups : Grouping) (sets : List ℕ) : Type 0 where
+  pub long : length sets ≡ 32
+  pub few : groupCount groups ≤ 32
+  pub bits : (k a : ℕ) → k < 32 → bit (getD sets k 0) a ≡ any (eqb a) (namedOutside m groups k (movesOf m groups k))
 
 -- the groups of a sheet, all moves counting
 pub record Partitioned (m : Model) (groups : Grouping) (r : Groups) : Type 0 where

@@ -34,7 +34,7 @@ fn prepared(costs: &[u32; 64], named: u64) -> u32
     while rest != 0 {
         let a = sets::lowest(rest);
         r += costs[a];
-        rest = sets::without(rest, a);
+        rest = sets::rest(rest);
     }
     r
 }

@@ -70,7 +70,7 @@ fn mutual(reach: &[u64], m: Machine) -> u64
     while rest != 0 {
         let j = sets::lowest(rest);
         r = sets::put_if(r, j, sets::has(reach[j], i));
-        rest = sets::without(rest, j);
+        rest = sets::rest(rest);
     }
     r
 }

@@ -1,16 +1,15 @@
-// Reading a plan back, whoever wrote it: whether its records fit, where its tables begin, an entry of a table, the bound.
+// Reading a plan back, whoever wrote it: whether its records fit, where its tables begin, the bound.
 use crate::sizing::count;
 use sheet::record::Record;
 use sheet::record::body;
-use sheet::record::byte_at;
 use sheet::record::wide;
 use sheet::record::word_at;
 ghost use mathlib.Core.Path.{_≡_};
 ghost use mathlib.Core.Bool.{_&&_};
 ghost use Prim.Native.Nat.{_≤_, _<_};
 ghost use lib.ListN.{length, getD};
-ghost use Rattle.sheet.specs.Record.{bodyAt, part};
-ghost use Rattle.plan.specs.Reading.{gapless, hasRecord, entryIn};
+ghost use Rattle.sheet.specs.Record.{part};
+ghost use Rattle.plan.specs.Reading.{gapless, hasRecord};
 ghost use Rattle.plan.specs.Outline.{Used, lowerNamed, tableBytes, StartsAt, tablesFit, endsAt, boundAt};
 
 // An entry of a table: a distance and a first move.
@@ -27,7 +26,7 @@ fn has_record(plan: &[u8], at: usize, kind: u16, len: usize) -> bool
         kind: found,
         start: _,
         len: size,
-    } = sheet::record::read(plan, at)
+    } = sheet::reader::record_at(plan, at)
     else {
         return false;
     };
@@ -151,26 +150,6 @@ pub fn records_fit(plan: &[u8], sizes: &[u8], starts: &[u32], count: usize) -> b
         return ends(plan, starts[count] as usize);
     }
     false
-}
-
-// The table of a group, as that part of the plan; its record begins at a place.
-pub fn table(plan: &[u8], at: usize) -> &[u8]
-    ensures { λ r. ⌜ now r ≡ bodyAt (now (plan .entry)) at ⌝ }
-{
-    body(plan, at)
-}
-
-// The entry from group mode p to q, in the table of a group of so many modes.
-pub fn entry(table: &[u8], size: usize, p: usize, q: usize) -> Cell
-    requires { ⌜ (size ≤ 64) × (p ≤ 64) × (q ≤ 64) ⌝ }
-    ensures { λ r. ⌜ ((r .distance ≡ (entryIn (now (table .entry)) size p q) .distance)
-        × (r .first ≡ (entryIn (now (table .entry)) size p q) .move)) ⌝ }
-{
-    let at = 2 * (p * size + q);
-    Cell {
-        distance: byte_at(table, at),
-        first: byte_at(table, at + 1),
-    }
 }
 
 // The bound in the record that begins at a place.

@@ -1,4 +1,4 @@
-// Prints a sheet in plain words and numbers, a line for each machine and each move, or its refusal.
+// Prints a sheet in plain words and numbers: a line for each machine and each move and one that counts them, or its refusal.
 use libc::STDOUT_FILENO;
 use sheet::index::Machine;
 use sheet::index::Move;
@@ -7,7 +7,7 @@ use sheet::refusal::Cause;
 use sheet::refusal::Verdict;
 ghost use Rattle.io.specs.Counts.{Counts};
 
-fn text(words: &[u8]) {
+pub fn text(words: &[u8]) {
     io::write_all(STDOUT_FILENO, words);
 }
 
@@ -16,7 +16,7 @@ fn number(n: u64) {
 }
 
 // A word and a number.
-fn labelled(words: &[u8], n: u64) {
+pub fn labelled(words: &[u8], n: u64) {
     text(words);
     number(n);
 }
@@ -92,10 +92,95 @@ fn move_lines(file: &[u8], sheet: Sheet) {
     }
 }
 
-fn refusal_line(cause: Cause, place: usize) {
+// A count and its word, a space before it, and an s behind it but for one.
+fn counted(n: u64, word: &[u8]) {
+    number(n);
+    text(word);
+    if n == 1 {
+        return;
+    }
+    text(b"s");
+}
+
+// A product, or 0 where it is 2^64 or more.
+fn product(a: u64, b: u64) -> u64 {
+    if b == 0 {
+        return 0;
+    }
+    if 0xFFFF_FFFF_FFFF_FFFF / b < a {
+        return 0;
+    }
+    a * b
+}
+
+// The product of the mode counts, or 0 where it is 2^64 or more.
+fn states(sheet: Sheet) -> u64 {
+    let count = sheet.machines;
+    let mut total: u64 = 1;
+    let mut m: usize = 0;
+    while m < count {
+        total = product(total, sheet.mode_count(Machine(byte(m))) as u64);
+        m += 1;
+    }
+    total
+}
+
+// The mode counts, as a product.
+fn factors(sheet: Sheet) {
+    let count = sheet.machines;
+    let mut m: usize = 0;
+    while m < count {
+        if 0 < m {
+            text(b" x ");
+        }
+        number(sheet.mode_count(Machine(byte(m))) as u64);
+        m += 1;
+    }
+}
+
+fn states_counted(sheet: Sheet) {
+    let total = states(sheet);
+    if total == 0 {
+        factors(sheet);
+        text(b" states");
+        return;
+    }
+    counted(total, b" state");
+}
+
+// The last line of a sheet: how many machines, moves and states.
+fn count_line(sheet: Sheet) {
+    counted(sheet.machines as u64, b" machine");
+    text(b", ");
+    counted(sheet.moves as u64, b" move");
+    text(b", ");
+    states_counted(sheet);
+    text(b"\n");
+}
+
+fn refusal(cause: Cause, place: usize) {
     labelled(b"refused ", sheet::refusal::number(cause) as u64);
     labelled(b" ", place as u64);
+}
+
+pub fn refusal_line(cause: Cause, place: usize) {
+    refusal(cause, place);
     text(b"\n");
+}
+
+// What a refusal of a sheet means.
+fn meaning(cause: Cause) {
+    match cause {
+        Cause::CutShort => text(b"a record is cut short, or the end is missing"),
+        Cause::WrongKind => text(b"a record of unknown kind or wrong length"),
+        Cause::TrailingBytes => text(b"bytes after the end"),
+        Cause::Misplaced => text(b"a record out of its place, or one too many"),
+        Cause::BadMachine => text(b"a machine whose modes do not fit"),
+        Cause::BadMove => text(b"a move of a machine or mode that cannot make it"),
+        Cause::BadGuard => text(b"a move that needs what cannot be"),
+        Cause::BadCommand => text(b"a move without a command, or with one used before"),
+        _ => text(b"not of a sheet"),
+    }
 }
 
 // The sheet that a file is.
@@ -106,9 +191,13 @@ pub fn print_sheet(file: &[u8]) {
         let index = reading.sheet;
         machine_lines(index);
         move_lines(file, index);
+        count_line(index);
         return;
     };
-    refusal_line(cause, place);
+    refusal(cause, place);
+    text(b": ");
+    meaning(cause);
+    text(b"\n");
 }
 
 // A file's bytes into a buffer, as many as it holds; 0 where there is no file.

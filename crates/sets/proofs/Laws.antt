@@ -46,7 +46,7 @@ pub bit-both : (a b i : ℕ) → bit (both a b) i ≡ (bit a i && bit b i)
 unfolding both
 bit-both = bitwise bitAnd min (λ p q. p && q) and-step and-digit
 
-less-step : (a b : ℕ) → less a b ≡ less (a / 2) (b / 2) * 2 + (a % 2 - min (a % 2) (b % 2))
+pub less-step : (a b : ℕ) → less a b ≡ less (a / 2) (b / 2) * 2 + (a % 2 - min (a % 2) (b % 2))
 unfolding less both
 less-step a b = omega (arith, and-step a b, and-le-l (a / 2) (b / 2), min-le-left (a % 2) (b % 2))
 

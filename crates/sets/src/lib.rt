@@ -1,6 +1,6 @@
 // Sets of numbers below 64, each a u64: number i is in the set s where bit i, worth 2 ^ i, is set.
 ghost use mathlib.Core.Path.{_≡_};
-ghost use mathlib.Core.Bool.{_&&_, _||_};
+ghost use mathlib.Core.Bool.{true, false, _&&_, _||_};
 ghost use Prim.Native.Nat.{ℕ, _<_, _≤_};
 ghost use lib.Dec.{eqb};
 ghost use Rattle.common.specs.Bits.{bit};
@@ -93,6 +93,21 @@ pub fn lowest(s: u64) -> usize
     ensures { λ r. ⌜ r ≡ least s ⌝ }
 {
     u64::trailing_zeros(s) as usize
+}
+
+// The set without its least member.
+pub fn rest(s: u64) -> u64
+    requires { ⌜ 0 < s ⌝ }
+    ensures { λ r. ⌜ r ≡ less s (alone (least s)) ⌝ }
+{
+    s & (s - 1)
+}
+
+pub fn highest(s: u64) -> usize
+    requires { ⌜ 0 < s ⌝ }
+    ensures { λ r. ⌜ (r < 64) × (bit s r ≡ true) × ((j : ℕ) → r < j → bit s j ≡ false) ⌝ }
+{
+    63 - u64::leading_zeros(s) as usize
 }
 
 pub fn up(s: u64, k: usize) -> u64

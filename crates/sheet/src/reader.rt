@@ -30,9 +30,9 @@ pub fn moved<'a>(r: Records<'a>, at: usize) -> Records<'a>
     Records { file: r.file, at }
 }
 
-// What begins at the front of a file.
-pub fn first(s: &[u8]) -> Record
-    ensures { λ r. ⌜ r ≡ recordAt (now (s .entry)) 0 ⌝ }
+// What begins at a place of a file: every record of a sheet or a plan is read so.
+pub fn record_at(s: &[u8], at: usize) -> Record
+    ensures { λ r. ⌜ r ≡ recordAt (now (s .entry)) at ⌝ }
 {
-    next(open(s))
+    next(moved(open(s), at))
 }

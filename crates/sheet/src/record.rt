@@ -38,7 +38,7 @@ pub fn word_at(s: &[u8], i: usize) -> usize
     wide(s[i]) + 256 * wide(byte_at(s, i + 1))
 }
 
-// The record that begins at a place.
+// The record that begins at a place; called by the reader alone.
 pub fn read(s: &[u8], at: usize) -> Record
     ensures { λ r. ⌜ r ≡ recordAt (now (s .entry)) at ⌝ }
 {
@@ -68,7 +68,7 @@ pub fn body(s: &[u8], at: usize) -> &[u8]
         kind: _,
         start,
         len,
-    } = read(s, at)
+    } = crate::reader::record_at(s, at)
     else {
         return &s[..0];
     };

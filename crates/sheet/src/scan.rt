@@ -128,7 +128,7 @@ fn record_step(
         → Stepped (turnOf (now (s .entry)) at d (recordAt (now (s .entry)) at))
         d (moveOf (bodyAt (now (s .entry)) at)) at r) ⌝ }
 {
-    let Record::Whole { kind, start, len } = crate::record::read(s, at) else {
+    let Record::Whole { kind, start, len } = crate::reader::record_at(s, at) else {
         return Step::Refused(Cause::CutShort, at);
     };
     let b = body(s, at);

@@ -2,7 +2,7 @@ use Prim.Native.Nat.{_<_}
 use native.Mathlib.Omega.{arith}
 use lib.ListN.{length}
 use Rattle.sets.specs.Sets.{elements}
-use Rattle.sets.proofs.Members.{taken-below, taken-shorter}
+use Rattle.sets.proofs.Members.{taken-below, taken-shorter, taken-rest}
 use Rattle.plan.proofs.CostLoops.{Prepares, prepares-none, prepares-next, prepares-fits, prepares-end}
 use borrow.Author.Needs.{needs}
 use Rattle.plan.proofs.bounding.prepared.Statement.{statement}
@@ -29,14 +29,14 @@ element-copy-out-r c = search taken-below
 add-r : tie.Need-add-r Inv-loop μ-loop
 add-r c = record { fits = search prepares-fits }
 
-without-requires : tie.Need-without-requires Inv-loop μ-loop
-without-requires c κs = search taken-below
+rest-requires : tie.Need-rest-requires Inv-loop μ-loop
+rest-requires c κs = search needs
 
 loop-less : tie.Need-loop-less Inv-loop μ-loop
-loop-less c = search taken-shorter
+loop-less c = search (taken-shorter, taken-rest)
 
 loop-again : tie.Need-loop-again Inv-loop μ-loop
-loop-again c = search prepares-next
+loop-again c = search (prepares-next, taken-rest)
 
 returns : tie.Need-returns Inv-loop μ-loop
 returns c = search prepares-end
@@ -52,7 +52,7 @@ prepared-spec =
     mul-r
     element-copy-out-r
     add-r
-    without-requires
+    rest-requires
     loop-less
     loop-again
     returns)

@@ -2,7 +2,7 @@ use Prim.Native.Nat.{_<_}
 use native.Mathlib.Omega.{arith}
 use lib.ListN.{length}
 use Rattle.sets.specs.Sets.{elements}
-use Rattle.sets.proofs.Members.{taken-below, taken-shorter}
+use Rattle.sets.proofs.Members.{taken-below, taken-shorter, taken-rest}
 use Rattle.plan.proofs.SetLoops.{Meets, meets-none, meets-next, meets-end}
 use borrow.Author.Needs.{needs}
 use Rattle.plan.proofs.grouping.mutual.Statement.{statement}
@@ -41,14 +41,14 @@ has-requires c κs = search needs
 put-if-requires : tie.Need-put-if-requires Inv-loop μ-loop
 put-if-requires c κs = search taken-below
 
-without-requires : tie.Need-without-requires Inv-loop μ-loop
-without-requires c κs = search taken-below
+rest-requires : tie.Need-rest-requires Inv-loop μ-loop
+rest-requires c κs = search needs
 
 loop-less : tie.Need-loop-less Inv-loop μ-loop
-loop-less c = search taken-shorter
+loop-less c = search (taken-shorter, taken-rest)
 
 loop-again : tie.Need-loop-again Inv-loop μ-loop
-loop-again c = search meets-next
+loop-again c = search (meets-next, taken-rest)
 
 returns : tie.Need-returns Inv-loop μ-loop
 returns c =
@@ -69,7 +69,7 @@ mutual-spec =
     shared-slice-read-has
     has-requires
     put-if-requires
-    without-requires
+    rest-requires
     loop-less
     loop-again
     returns)

@@ -3,8 +3,8 @@ use borrow.Author.Needs.{needs}
 use Rattle.plan.proofs.reading.has_record.Statement.{statement}
 use Rattle.plan.proofs.reading.has_record.Tie as tie
 
-read-requires : tie.Need-read-requires
-read-requires c κs = search needs
+record-at-requires : tie.Need-record-at-requires
+record-at-requires c κs = search needs
 
 enum-known-found : tie.Need-enum-known-found
 enum-known-found c = search needs
@@ -23,4 +23,4 @@ returns-3 c = search record-long
 
 pub has-record-spec : {M : Type 1} → statement M
 has-record-spec =
-    tie.close (tie.spec read-requires enum-known-found enum-told returns returns-2 returns-3)
+    tie.close (tie.spec record-at-requires enum-known-found enum-told returns returns-2 returns-3)

@@ -4,8 +4,8 @@ use Rattle.sheet.proofs.Records.{whole-within, body-whole, body-none}
 use Rattle.sheet.proofs.record.body.Statement.{statement}
 use Rattle.sheet.proofs.record.body.Tie as tie
 
-read-requires : tie.Need-read-requires
-read-requires c κs = search needs
+record-at-requires : tie.Need-record-at-requires
+record-at-requires c κs = search needs
 
 enum-known-start : tie.Need-enum-known-start
 enum-known-start c = search needs
@@ -17,10 +17,10 @@ slice-aggregate-result : tie.Need-slice-aggregate-result
 slice-aggregate-result c = search needs
 
 returns : tie.Need-returns
-returns c = body-none _ _ (c .before .before .before .read .ensures) (c .before .enum-told .given .1)
+returns c = body-none _ _ (c .before .before .before .record-at .ensures) (c .before .enum-told .given .1)
 
 add-end : tie.Need-add-end
-add-end c = omega (arith, whole-within _ _ (c .before .before .before .read .ensures) (c .before .start .given .1))
+add-end c = omega (arith, whole-within _ _ (c .before .before .before .record-at .ensures) (c .before .start .given .1))
 
 sub-result : tie.Need-sub-result
 sub-result c = search needs
@@ -29,16 +29,16 @@ part-result-start : tie.Need-part-result-start
 part-result-start c = search needs
 
 part-result-end : tie.Need-part-result-end
-part-result-end c = whole-within _ _ (c .before .before .before .read .ensures) (c .before .start .given .1)
+part-result-end c = whole-within _ _ (c .before .before .before .record-at .ensures) (c .before .start .given .1)
 
 returns-2 : tie.Need-returns-2
-returns-2 c = body-whole _ _ (c .before .before .before .before .read .ensures) (c .before .before .start .given .1)
+returns-2 c = body-whole _ _ (c .before .before .before .before .record-at .ensures) (c .before .before .start .given .1)
 
 pub body-spec : {M : Type 1} → statement M
 body-spec =
     tie.close
     (tie.spec
-    read-requires
+    record-at-requires
     enum-known-start
     enum-told
     slice-aggregate-result

@@ -5,8 +5,8 @@ use Rattle.sheet.proofs.Steps.{next-is, step-by-machine, step-by-move, 
 use Rattle.sheet.proofs.scan.record_step.Statement.{statement}
 use Rattle.sheet.proofs.scan.record_step.Tie as tie
 
-read-requires : tie.Need-read-requires
-read-requires c κs = search needs
+record-at-requires : tie.Need-record-at-requires
+record-at-requires c κs = search needs
 
 enum-known-kind : tie.Need-enum-known-kind
 enum-known-kind c = search needs
@@ -15,7 +15,7 @@ enum-told : tie.Need-enum-told
 enum-told c = search needs
 
 returns : tie.Need-returns
-returns c = λ d h. step-cut _ _ d _ (c .before .before .read .ensures) (c .enum-told .given .1)
+returns c = λ d h. step-cut _ _ d _ (c .before .before .record-at .ensures) (c .enum-told .given .1)
 
 body-requires : tie.Need-body-requires
 body-requires c κs = search needs
@@ -23,16 +23,16 @@ body-requires c κs = search needs
 add-next : tie.Need-add-next
 add-next c =
     omega
-    (arith, whole-within _ _ (c .before .before .before .before .read .ensures) (c .before .before .kind .given .1))
+    (arith, whole-within _ _ (c .before .before .before .before .record-at .ensures) (c .before .before .kind .given .1))
 
 machine-step-requires : tie.Need-machine-step-requires
 machine-step-requires c κs =
-    next-is _ _ (c .before .before .before .before .before .read .ensures) (c .before .before .before .kind .given .1)
+    next-is _ _ (c .before .before .before .before .before .record-at .ensures) (c .before .before .before .kind .given .1)
     (c .before .body .ensures)
 
 move-step-requires : tie.Need-move-step-requires
 move-step-requires c κs = (
-  next-is _ _ (c .before .before .before .before .before .read .ensures) (c .before .before .before .kind .given .1)
+  next-is _ _ (c .before .before .before .before .before .record-at .ensures) (c .before .before .before .kind .given .1)
       (c .before .body .ensures),
   c .before .before .before .before .before .before .before .before .before .before .before .pre,
 )
@@ -42,25 +42,25 @@ end-step-requires c κs = search needs
 
 returns-2 : tie.Need-returns-2
 returns-2 c =
-    λ d h. step-by-machine _ _ d (c .before .before .before .before .before .before .read .ensures)
+    λ d h. step-by-machine _ _ d (c .before .before .before .before .before .before .record-at .ensures)
     (c .before .before .before .before .kind .given .1) (c .before .before .body .ensures) (c .before .match2 .keys1)
     (c .machine-step .ensures d (h .machines-are) (h .moves-are))
 
 returns-3 : tie.Need-returns-3
 returns-3 c =
-    λ d h. step-by-move _ _ d (c .before .before .before .before .before .before .read .ensures)
+    λ d h. step-by-move _ _ d (c .before .before .before .before .before .before .record-at .ensures)
     (c .before .before .before .before .kind .given .1) (c .before .before .body .ensures) (c .before .match2 .keys2)
     (c .move-step .ensures d h)
 
 returns-4 : tie.Need-returns-4
 returns-4 c =
-    λ d h. step-by-end _ _ d (c .before .before .before .before .before .before .read .ensures)
+    λ d h. step-by-end _ _ d (c .before .before .before .before .before .before .record-at .ensures)
     (c .before .before .before .before .kind .given .1) (c .before .before .body .ensures) (c .before .match2 .keys3)
     (c .end-step .ensures d (h .machines-are))
 
 returns-5 : tie.Need-returns-5
 returns-5 c =
-    λ d h. step-unknown _ _ d (c .before .before .before .before .before .read .ensures)
+    λ d h. step-unknown _ _ d (c .before .before .before .before .before .record-at .ensures)
     (c .before .before .before .kind .given .1) (c .before .body .ensures) _ (c .match2 .rest .0 .0 .1)
     (c .match2 .rest .0 .1) (c .match2 .rest .1)
 
@@ -68,7 +68,7 @@ pub record-step-spec : {M : Type 1} → statement M
 record-step-spec =
     tie.close
     (tie.spec
-    read-requires
+    record-at-requires
     enum-known-kind
     enum-told
     returns

@@ -1,0 +1,61 @@
+//! The calls asked of both versions, which must reply and write alike.
+
+use crate::command::{Command, Next};
+use crate::library::Library;
+use crate::version::{Rust, Version};
+use crate::{walk as walks, Reply};
+use std::fmt::Debug;
+
+/// What both versions gave.
+#[track_caller]
+fn same<T: PartialEq + Debug>(by_rust: T, by_library: T) -> T {
+    assert_eq!(by_library, by_rust, "the library differs (left)");
+    by_rust
+}
+
+#[track_caller]
+pub fn check_sheet(sheet: &[u8]) -> Reply<u32> {
+    same(Rust::sheet(sheet), Library::sheet(sheet))
+}
+
+#[track_caller]
+pub fn plan_length(sheet: &[u8]) -> Reply<usize> {
+    let length = same(Rust::plan_length(sheet), Library::plan_length(sheet));
+    length.map(|length| length as usize)
+}
+
+#[track_caller]
+pub fn plan(sheet: &[u8], plan: &mut [u8], scratch: &mut [u8]) -> Reply<()> {
+    let (mut other, mut other_scratch) = (plan.to_vec(), scratch.to_vec());
+    let by_library = Library::plan(sheet, &mut other, &mut other_scratch);
+    let reply = same(Rust::plan(sheet, plan, scratch), by_library);
+    same((&*plan, &*scratch), (&other, &other_scratch));
+    reply.map(|_| ())
+}
+
+#[track_caller]
+pub fn next_command(sheet: &[u8], plan: &[u8], state: &[u8], goal: &[u8]) -> Reply<Next> {
+    let by_library = Library::next(sheet, plan, state, goal);
+    same(Rust::next(sheet, plan, state, goal), by_library).map(Next::of_value)
+}
+
+#[track_caller]
+pub fn apply(sheet: &[u8], state: &mut [u8], command: Command) -> Reply<bool> {
+    let mut other = state.to_vec();
+    let by_library = Library::apply(sheet, &mut other, command);
+    let reply = same(Rust::apply(sheet, state, command), by_library);
+    same(&*state, &other);
+    reply.map(|changed| changed == 1)
+}
+
+#[track_caller]
+pub fn own_plan(sheet: &[u8]) -> Reply<Vec<u8>> {
+    let by_library = walks::own_plan::<Library>(sheet);
+    same(walks::own_plan::<Rust>(sheet), by_library)
+}
+
+#[track_caller]
+pub fn walk(sheet: &[u8], state: &[u8], goal: &[u8]) -> String {
+    let by_library = walks::walk::<Library>(sheet, state, goal);
+    same(walks::walk::<Rust>(sheet, state, goal), by_library)
+}

@@ -1,0 +1,53 @@
+//! The versions of the planner, with the calls that each of them has. The
+//! values are those of the C interface.
+
+use crate::command::{apply, next_command, Command, Next};
+use crate::plan::{plan, plan_length};
+use crate::sheet::check_sheet;
+use crate::Reply;
+
+pub trait Version {
+    const NAME: &'static str;
+
+    /// Checks a sheet; the value is 256 × moves + machines.
+    fn sheet(sheet: &[u8]) -> Reply<u32>;
+
+    /// The length of a sheet's plan; the value is its bytes.
+    fn plan_length(sheet: &[u8]) -> Reply<u32>;
+
+    /// Writes a sheet's plan and clears the scratch; the value is 0.
+    fn plan(sheet: &[u8], plan: &mut [u8], scratch: &mut [u8]) -> Reply<u32>;
+
+    /// The next command toward a goal; the value is that of `Next`.
+    fn next(sheet: &[u8], plan: &[u8], state: &[u8], goal: &[u8]) -> Reply<u32>;
+
+    /// Applies a command to a state; the value is 1 if a machine changed, else 0.
+    fn apply(sheet: &[u8], state: &mut [u8], command: Command) -> Reply<u32>;
+}
+
+/// The version of this package.
+pub struct Rust;
+
+impl Version for Rust {
+    const NAME: &'static str = "the Rust version";
+
+    fn sheet(sheet: &[u8]) -> Reply<u32> {
+        check_sheet(sheet)
+    }
+
+    fn plan_length(sheet: &[u8]) -> Reply<u32> {
+        plan_length(sheet).map(|length| length as u32)
+    }
+
+    fn plan(sheet: &[u8], buffer: &mut [u8], scratch: &mut [u8]) -> Reply<u32> {
+        plan(sheet, buffer, scratch).map(|()| 0)
+    }
+
+    fn next(sheet: &[u8], plan: &[u8], state: &[u8], goal: &[u8]) -> Reply<u32> {
+        next_command(sheet, plan, state, goal).map(Next::value)
+    }
+
+    fn apply(sheet: &[u8], state: &mut [u8], command: Command) -> Reply<u32> {
+        apply(sheet, state, command).map(u32::from)
+    }
+}

@@ -1,0 +1,101 @@
+-- What applying a command answers and leaves, by the move that is found: none, or one that answers.
+-- Assumes nothing.
+use Prim.Native.Nat.{ℕ, _-_, _<_}
+use mathlib.Core.Path.{_≡_, sym, ap, _∙_}
+use mathlib.Core.Logic.{⊎-elim}
+use mathlib.Core.List.{List}
+use mathlib.Core.Bool.{Bool, true, false}
+use native.Mathlib.Omega.{arith}
+use borrow.Author.Tests.{lt-ltb}
+use lib.Dec.{ltb}
+use lib.ListN.{length, getD}
+use Rattle.common.specs.Reply.{Reply, given, refused, clear, unless}
+use Rattle.common.proofs.Reply.{unless-clear}
+use Rattle.common.proofs.Clear.{clear-each}
+use Rattle.sheet.specs.declared.index.Sheet.{Sheet}
+use Rattle.sheet.specs.declared.refusal.Cause.{Cause}
+use Rattle.sheet.specs.declared.refusal.Verdict.{Verdict}
+use Rattle.sheet.specs.declared.refusal.Verdict.the-variants.{Refused}
+use Rattle.sheet.specs.Refusal.{numberOf}
+use Rattle.sheet.specs.Record.{byte, bodyAt}
+use Rattle.sheet.specs.Model.{Model, moveAt, moveOf}
+use Rattle.sheet.specs.Index.{Indexes}
+use Rattle.sheet.proofs.Indexed.{indexes-valid, indexes-moves}
+use Rattle.plan.specs.Outline.{verdictSays}
+use Rattle.plan.proofs.MoveTurns.{turn-move}
+use Rattle.command.specs.State.{withMode, stateFaults}
+use Rattle.command.specs.Apply.{Answers, Applied, actingMove, stateBy, appliedBy, applyReply, stateAfter}
+use Rattle.command.specs.Advised.{changeReply}
+use Rattle.command.proofs.Shape.{sound-state}
+use Rattle.command.proofs.Applying.{found-or-none, answer-moves, none-moves, apply-reply}
+use Rattle.command.proofs.Verdicts.{refused-unless}
+
+-- `act`: v is the move that is found
+module _ {file : List ℕ} {x : Sheet} {m : Model} (i : Indexes file x m) (state : List ℕ) (machine command : ℕ) {v : ℕ}
+    (e : v ≡ actingMove m state machine command) where
+  pub acted-none : v ≡ 255 → given false ≡ changeReply (given (appliedBy m state machine command))
+  acted-none z = ap given (sym (ap (λ n. ltb n 255) (sym e ∙ z)))
+
+  pub left-none : v ≡ 255 → state ≡ stateBy m state machine command
+  left-none z = sym (none-moves m state machine command (sym e ∙ z))
+
+  module _ (n : v ≡ 255 → ⊥) where
+    acted-answers : Answers m state machine command v
+    acted-answers = rw e (⊎-elim (λ f. f) (λ f. absurd (n (e ∙ f .0))) (found-or-none m state machine command))
+
+    pub acted-place : {w : ℕ} → w ≡ v → w < x .moves
+    acted-place q = omega (arith, acted-answers .there, indexes-moves i)
+
+    pub acted-within : clear (stateFaults m state) ≡ true → machine < length state
+    acted-within h =
+        rw (sound-state m state h .long, ← acted-answers .its-machine)
+        (indexes-valid i .moves-valid v (acted-answers .there) .present)
+
+    pub acted-some : given true ≡ changeReply (given (appliedBy m state machine command))
+    acted-some =
+        let below : actingMove m state machine command < 255 =
+        omega (arith, acted-answers .there, indexes-valid i .few-moves) in
+        ap given (sym (lt-ltb _ 255 below))
+
+    pub left-some : {w : ℕ} {body after : List ℕ} → w ≡ v → body ≡ bodyAt file (getD (x .bodies) w 0 - 4)
+        → after ≡ withMode state machine (byte body 2) → after ≡ stateBy m state machine command
+    unfolding moveOf
+    left-some {w} {body} q b l =
+        let moves = answer-moves m state machine command (indexes-valid i) acted-answers in
+        let to : byte body 2 ≡ moveAt m v .to =
+        ap (λ u. u .to) (turn-move i (acted-place q) b) ∙ ap (λ k. moveAt m k .to) q in
+        l ∙ (ap (withMode state machine) to ∙ sym moves)
+
+-- `test`: 13 first
+module _ (m : Model) (state : List ℕ) (machine command : ℕ) where
+  abbrev tested : Reply Applied
+  tested = unless (stateFaults m state) (given (appliedBy m state machine command))
+
+  module _ (passes : clear (stateFaults m state) ≡ true) where
+    accepted-is : tested ≡ given (appliedBy m state machine command)
+    accepted-is = unless-clear _ _ (clear-each _ passes)
+
+    pub accepted-says : {b : Reply Bool} → b ≡ changeReply (given (appliedBy m state machine command))
+        → b ≡ changeReply tested
+    accepted-says h = h ∙ sym (ap changeReply accepted-is)
+
+    pub accepted-leaves : {after : List ℕ} → after ≡ stateBy m state machine command → after ≡ stateAfter tested state
+    accepted-leaves h = h ∙ sym (ap (λ y. stateAfter y state) accepted-is)
+
+  module _ {r : Verdict} {cause : Cause} {place : ℕ} (e : verdictSays r ≡ unless (stateFaults m state) (given tt))
+      (a : r ≡ Refused cause place) where
+    refused-is : tested ≡ refused (numberOf cause) place
+    refused-is = refused-unless _ e a _
+
+    pub refused-says : refused (numberOf cause) place ≡ changeReply tested
+    refused-says = sym (ap changeReply refused-is)
+
+    pub refused-leaves : state ≡ stateAfter tested state
+    refused-leaves = sym (ap (λ y. stateAfter y state) refused-is)
+
+-- `apply`: the sheet first
+pub apply-read : {file : List ℕ} {x : Sheet} {m : Model} → Indexes file x m → (state : List ℕ) (machine command : ℕ)
+    → applyReply file state machine command
+    ≡ unless (stateFaults m state) (given (appliedBy m state machine command))
+apply-read {file} i state machine command =
+    rw (i .model) (apply-reply file state machine command (i .parsed) (i .passes))

@@ -1,0 +1,138 @@
+-- Whether all needs of a move hold, whether a move answers a command, and the first move that does.
+-- Assumes nothing.
+use Prim.Native.Nat.{ℕ, suc, _+_, _-_, _*_, _/_, _≤_, _<_, zero-le}
+use mathlib.Core.Path.{_≡_, refl, sym, _∙_}
+use mathlib.Core.List.{List}
+use mathlib.Core.Bool.{Bool, true, false, not, _&&_, and-true}
+use native.Mathlib.Omega.{arith}
+use borrow.Author.Count.{below-none, below-more}
+use borrow.Author.Tests.{not-true, not-false, eq-eqb, ne-eqb}
+use lib.Dec.{eqb}
+use lib.ListN.{length, getD}
+use Rattle.common.specs.Lists.{upTo, all}
+use Rattle.common.specs.Bits.{bit}
+use Rattle.common.proofs.Bools.{and-intro, and-false-left, and-false-right, true-false, false-of-not-true}
+use Rattle.common.proofs.Lists.{all-at, all-append, all-map}
+use Rattle.common.proofs.Members.{upTo-mem}
+use Rattle.common.proofs.Search.{find-upTo-is, find-upTo-none}
+use Rattle.sheet.specs.declared.index.Sheet.{Sheet}
+use Rattle.sheet.specs.Record.{byte, bodyAt}
+use Rattle.sheet.specs.Model.{Guard, Model, moveOf}
+use Rattle.sheet.specs.Index.{Indexes}
+use Rattle.sheet.proofs.Indexed.{indexes-moves, indexes-body}
+use Rattle.plan.proofs.MoveTurns.{turn-present, turn-move}
+use Rattle.command.specs.State.{modeOf}
+use Rattle.command.specs.Apply.{acts, actingMove}
+
+-- a need holds in a state
+abbrev pub holds : List ℕ → Guard → Bool
+holds state g = bit (g .mask) (modeOf state (g .machine))
+
+-- `ready`: each need before the place at holds
+
+pub record Holding (state body : List ℕ) (at : ℕ) : Type 0 where
+  pub passed : ℕ
+  pub place : at ≡ 4 + 2 * passed
+  pub within : passed ≤ (length body - 4) / 2
+  pub each : all (λ n. bit (byte body (5 + 2 * n)) (modeOf state (byte body (4 + 2 * n)))) (upTo passed) ≡ true
+
+module _ {state body : List ℕ} where
+  pub holding-none : Holding state body 4
+  unfolding upTo all
+  holding-none = record { passed = 0; place = refl; within = zero-le; each = refl }
+
+  module _ {at mode : ℕ} {b : Bool} (h : Holding state body at) (l : at + 1 < length body)
+      (e : mode ≡ modeOf state (byte body at)) (r : b ≡ bit (byte body (at + 1)) mode) where
+    here : b ≡ bit (byte body (5 + 2 * h .passed)) (modeOf state (byte body (4 + 2 * h .passed)))
+    here = let p : at + 1 ≡ 5 + 2 * h .passed = omega (arith, h .place) in rw (← p, ← h .place, ← e) r
+
+    pub holding-next : not b ≡ false → Holding state body (at + 2)
+    unfolding upTo all
+    holding-next t =
+        record {
+          passed = suc (h .passed);
+          place = omega (arith, h .place);
+          within = omega (arith, h .place);
+          each = rw (all-append, and-true) (and-intro (h .each) (sym here ∙ not-false b t));
+        }
+
+    pub holding-fails : not b ≡ true → false ≡ all (holds state) (moveOf body .guards)
+    unfolding moveOf
+    holding-fails f =
+        let i : h .passed < (length body - 4) / 2 = omega (arith, h .place) in
+        sym (all-map _ _ _ ∙ false-of-not-true (λ t. true-false (all-at _ t (upTo-mem i)) (sym here ∙ not-true b f)))
+
+  pub holding-end : {at : ℕ} → Holding state body at → length body ≤ at + 1
+      → true ≡ all (holds state) (moveOf body .guards)
+  unfolding moveOf
+  holding-end h l =
+      let e : h .passed ≡ (length body - 4) / 2 = omega (arith, h .place, h .within) in
+      sym (rw (all-map, ← e) (h .each))
+
+-- `answers`: test by test
+
+abbrev pub answering : List ℕ → List ℕ → ℕ → ℕ → ℕ → Bool
+answering state body machine mode command =
+    eqb (moveOf body .machine) machine && eqb (moveOf body .from) mode && eqb (moveOf body .command) command
+    && all (holds state) (moveOf body .guards)
+
+module _ (state body : List ℕ) (machine mode command : ℕ) where
+  pub other-machine : (byte body 0 ≡ machine → ⊥) → false ≡ answering state body machine mode command
+  unfolding moveOf
+  other-machine n = rw (ne-eqb (byte body 0) machine n)
+
+  pub other-mode : not (eqb (byte body 1) mode) ≡ true → false ≡ answering state body machine mode command
+  unfolding moveOf
+  other-mode n =
+      let here : Bool = eqb (byte body 0) machine in
+      sym (and-false-left _ (and-false-left _ (and-false-right here (not-true _ n))))
+
+  pub other-command : not (eqb (byte body 3) command) ≡ true → false ≡ answering state body machine mode command
+  unfolding moveOf
+  other-command n =
+      let here : Bool = eqb (byte body 0) machine && eqb (byte body 1) mode in
+      sym (and-false-left _ (and-false-right here (not-true _ n)))
+
+  pub needs-left : {r : Bool} → byte body 0 ≡ machine → not (eqb (byte body 1) mode) ≡ false
+      → not (eqb (byte body 3) command) ≡ false → r ≡ all (holds state) (moveOf body .guards)
+      → r ≡ answering state body machine mode command
+  unfolding moveOf
+  needs-left a b c e =
+      let from : eqb (byte body 1) mode ≡ true = not-false _ b in
+      let asked : eqb (byte body 3) command ≡ true = not-false _ c in
+      rw (eq-eqb (byte body 0) machine a, from, asked) e
+
+-- `acting`: no move before move v answers
+
+pub record Unanswered (m : Model) (state : List ℕ) (machine command v : ℕ) : Type 0 where
+  pub none : (j : ℕ) → j < v → acts m state machine command j ≡ false
+
+pub unanswered-none : (m : Model) (state : List ℕ) (machine command : ℕ) → Unanswered m state machine command 0
+unanswered-none m state machine command = record { none = below-none (λ j. acts m state machine command j ≡ false) }
+
+pub turn-head : {s : List ℕ} {x : Sheet} {m : Model} → Indexes s x m → {v : ℕ} → v < x .moves
+    → {b : List ℕ} → b ≡ bodyAt s (getD (x .bodies) v 0 - 4) → 3 < length b
+turn-head i {v} h e = rw e (indexes-body i v (turn-present i h) .long)
+
+module _ {s state : List ℕ} {x : Sheet} {machine command : ℕ} {m : Model} (i : Indexes s x m) where
+  module _ {mode v : ℕ} {body : List ℕ} {r : Bool} (e : mode ≡ modeOf state machine)
+      (u : Unanswered m state machine command v) (h : v < x .moves) (b : body ≡ bodyAt s (getD (x .bodies) v 0 - 4))
+      (a : r ≡ answering state body machine mode command) where
+    acts-here : acts m state machine command v ≡ r
+    unfolding acts
+    acts-here = sym (rw (turn-move i h b, e) at a)
+
+    pub unanswered-next : r ≡ false → Unanswered m state machine command (v + 1)
+    unanswered-next f =
+        record { none = below-more (λ j. acts m state machine command j ≡ false) v (u .none) (acts-here ∙ f) }
+
+    pub answered-here : r ≡ true → v ≡ actingMove m state machine command
+    unfolding actingMove
+    answered-here t =
+        sym (find-upTo-is (acts m state machine command) 255 v (turn-present i h) (acts-here ∙ t) (u .none))
+
+  pub unanswered-end : {v : ℕ} → Unanswered m state machine command v → x .moves ≤ v
+      → 255 ≡ actingMove m state machine command
+  unfolding actingMove
+  unanswered-end u h =
+      sym (find-upTo-none (acts m state machine command) 255 (λ j l. u .none j (omega (arith, indexes-moves i))))

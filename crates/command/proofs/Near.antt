@@ -1,0 +1,144 @@
+-- Every place that next command or applying names in a refusal is at most 6,196.
+-- Assumes nothing.
+use Prim.Native.Nat.{ℕ, zero, suc, _≤_}
+use mathlib.Core.Path.{_≡_, subst}
+use mathlib.Core.Logic.{⊎-elim}
+use mathlib.Core.List.{List, [], _∷_, _++_, flatMap, append-assoc}
+use mathlib.Core.Bool.{Bool}
+use native.Mathlib.Omega.{arith}
+use borrow.Author.Tests.{ltb-false}
+use lib.ListN.{length, length-take, length-drop}
+use Rattle.common.specs.Lists.{upTo, any, find}
+use Rattle.common.specs.Reply.{Reply, given, refused, Fault, unless}
+use Rattle.common.proofs.Bools.{by-cases}
+use Rattle.common.proofs.Search.{find-upTo-below, find-none}
+use Rattle.common.proofs.Reply.{Each, Silent, caused-each, refused-cause, andThen-refused}
+use Rattle.sheet.specs.Record.{part}
+use Rattle.sheet.specs.Model.{Move, Model, machineCount}
+use Rattle.sheet.specs.Valid.{Valid}
+use Rattle.sheet.specs.Parse.{parse}
+use Rattle.sheet.proofs.Parsed.{parse-valid}
+use Rattle.sheet.proofs.Place.{refusal-near}
+use Rattle.plan.specs.Groups.{smallestMember}
+use Rattle.plan.specs.Reading.{groupsIn}
+use Rattle.plan.proofs.GroupLoops.{smallest-inside}
+use Rattle.command.specs.State.{absentMode, stateFaults, badByte, goalFaults}
+use Rattle.command.specs.Goal.{Masks, goalMasks, met}
+use Rattle.command.specs.Attainable.{groups, faultOf, groupFaults, attainFaults}
+use Rattle.command.specs.Next.{Next, holdsOutside, prepareBy, followBy, fulfil, goalRefusals, nextReply}
+use Rattle.command.specs.Apply.{applyReply}
+use Rattle.command.proofs.Refusals.{causesOf}
+
+abbrev Near : {A : Type 0} → Reply A → Type 0
+Near (given a) = Unit {0}
+Near (refused number place) = place ≤ 6196
+
+abbrev NearFault : Fault → Type 0
+NearFault f = f .place ≤ 6196
+
+module _ {A : Type 0} (r : Reply A) where
+  none-near : Near r → Near (unless [] r)
+  unfolding unless
+  none-near h = h
+
+  -- a cause that is near, before others that count only where it does not apply
+  first-near : (f : Fault) (fs : List Fault) → NearFault f → (Silent f → Near (unless fs r)) → Near (unless (f ∷ fs) r)
+  unfolding unless
+  first-near f fs h later = by-cases (f .applies) (λ t. rw t h) (λ n. rw n (later n))
+
+  -- causes that are all near, before others
+  each-near : (fs gs : List Fault) → Each NearFault fs → Near (unless gs r) → Near (unless (fs ++ gs) r)
+  each-near [] gs h later = later
+  each-near (f ∷ fs) gs h later = first-near f (fs ++ gs) (h .0) (λ n. each-near fs gs (h .1) later)
+
+-- the first of the numbers below n that, or 0
+find-inside : (p : ℕ → Bool) (n : ℕ) → find p (upTo n) 0 ≤ n
+find-inside p n =
+    by-cases (any p (upTo n))
+    (λ t. omega (arith, find-upTo-below p n 0 t))
+    (λ f. omega (arith, find-none p (upTo n) 0 f))
+
+-- Following the entries refuses with 15, whose place is 0
+module _ (m : Model) (plan state : List ℕ) where
+  prepare-near : (lower : Masks → Reply Next) (k : ℕ) (v : Move) → ((needs : Masks) → Near (lower needs))
+      → Near (prepareBy m plan state lower k v)
+  unfolding prepareBy
+  prepare-near lower k v h = by-cases (holdsOutside m plan state k v) (λ t. rw t tt) (λ f. rw f (h _))
+
+  follow-near : (lower : Masks → Reply Next) (masks : Masks) (k : ℕ) → ((needs : Masks) → Near (lower needs))
+      → Near (followBy m plan state lower masks k)
+  unfolding followBy
+  follow-near lower masks k h = first-near _ _ [] (omega arith) (λ n. none-near _ (prepare-near lower k _ h))
+
+  fulfil-near : (masks : Masks) (n : ℕ) → Near (fulfil m plan state masks n)
+  unfolding fulfil
+  fulfil-near masks zero = tt
+  fulfil-near masks (suc k) =
+      by-cases (met (groups m plan) masks state k)
+      (λ t. rw t (fulfil-near masks k))
+      (λ f. rw f (follow-near _ masks k (λ needs. fulfil-near needs k)))
+
+-- For a valid model every cause stands at 0, at 255 or at a machine
+module _ (m : Model) (valid : Valid m) where
+  state-near : (state : List ℕ) → Each NearFault (stateFaults m state)
+  unfolding stateFaults
+  state-near state = omega (arith, find-inside (absentMode m state) (machineCount m), valid .few-machines)
+
+  -- 14 stands at a byte only of a goal that is not too long
+  goal-near : {A : Type 0} (r : Reply A) (goal : List ℕ) (fs : List Fault) → Near (unless fs r)
+      → Near (unless (goalFaults m goal ++ fs) r)
+  unfolding goalFaults
+  goal-near r goal fs later =
+      first-near r _ _ (omega arith) (λ n.
+      let l = ltb-false (machineCount m) (length goal) n in
+      first-near r _ fs (omega (arith, find-inside (badByte m goal) (length goal), valid .few-machines)) (λ k. later))
+
+  module _ (plan state : List ℕ) (masks : Masks) where
+    smallest-near : (k : ℕ) → smallestMember (groups m plan) k ≤ 6196
+    unfolding groupsIn part
+    smallest-near k =
+        let few : length (groups m plan) ≤ machineCount m = simp (length-take, length-drop) (omega arith) in
+        omega (arith, smallest-inside (groups m plan) k, valid .few-machines)
+
+    group-near : (k : ℕ) → Each NearFault (groupFaults m plan state masks k)
+    unfolding groupFaults faultOf
+    group-near k = (smallest-near _, (smallest-near k, (smallest-near _, tt)))
+
+    causes-near : (k : ℕ) → Each NearFault (causesOf m plan state masks k)
+    causes-near k = by-cases (met (groups m plan) masks state k) (λ t. rw t tt) (λ f. rw f (group-near k))
+
+    attain-near : {A : Type 0} (r : Reply A) → Near r → (ks : List ℕ)
+        → Near (unless (flatMap (causesOf m plan state masks) ks) r)
+    unfolding flatMap
+    attain-near r h [] = none-near r h
+    attain-near r h (k ∷ ks) = each-near r (causesOf m plan state masks k) _ (causes-near k) (attain-near r h ks)
+
+  refusals-near : {A : Type 0} (r : Reply A) (plan state goal : List ℕ) → Near r
+      → Near (unless (goalRefusals m plan state goal) r)
+  unfolding goalRefusals attainFaults
+  refusals-near r plan state goal h =
+      rw (append-assoc (stateFaults m state) (goalFaults m goal) (attainFaults m plan state (goalMasks m goal)))
+      (each-near r (stateFaults m state) _ (state-near state)
+      (goal-near r goal _ (attain-near plan state (goalMasks m goal) r h _)))
+
+pub next-near : (sheet plan state goal : List ℕ) {number place : ℕ} → nextReply sheet plan state goal ≡ refused number place
+    → place ≤ 6196
+unfolding nextReply
+next-near sheet plan state goal e =
+    ⊎-elim
+    (λ unread. refusal-near sheet unread)
+    (λ (d, read, faulty).
+    subst Near faulty
+    (first-near _ _ _ (omega arith) (λ n.
+    refusals-near (d .model) (parse-valid sheet read) _ plan state goal (fulfil-near (d .model) plan state _ _))))
+    (andThen-refused (parse sheet) _ e)
+
+pub apply-near : (sheet state : List ℕ) (machine command : ℕ) {number place : ℕ}
+    → applyReply sheet state machine command ≡ refused number place → place ≤ 6196
+unfolding applyReply
+apply-near sheet state machine command e =
+    ⊎-elim
+    (λ unread. refusal-near sheet unread)
+    (λ (d, read, faulty).
+    caused-each (λ n p. p ≤ 6196) (state-near (d .model) (parse-valid sheet read) state) (refused-cause _ _ faulty))
+    (andThen-refused (parse sheet) _ e)

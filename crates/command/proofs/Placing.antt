@@ -1,0 +1,84 @@
+-- A state that passes 13, for a plan in shape: its length, its modes, and the number of each machine's group. The same of
+-- what a question keeps.
+-- Assumes nothing.
+use Prim.Native.Nat.{ℕ, _≤_, _<_}
+use mathlib.Core.Path.{_≡_, ap, _∙_}
+use mathlib.Core.List.{List}
+use native.Mathlib.Omega.{arith}
+use borrow.Author.Tests.{ltb-true, ltb-false}
+use lib.Dec.{ltb}
+use lib.ListN.{length, getD, List·getD-eq-default}
+use Rattle.common.specs.Lists.{pad}
+use Rattle.common.proofs.Bools.{by-cases}
+use Rattle.common.proofs.Pad.{length-pad}
+use Rattle.sheet.specs.Model.{Model, machineCount, modeCount}
+use Rattle.plan.specs.Groups.{groupOf, groupCount}
+use Rattle.plan.specs.Reading.{groupsIn}
+use Rattle.plan.specs.ModeSets.{ModesHeld}
+use Rattle.plan.proofs.NumbersUsed.{gapless-count}
+use Rattle.command.specs.State.{modeOf}
+use Rattle.command.specs.Question.{Placed, Kept, numbersIn, weightsIn}
+use Rattle.command.proofs.Shape.{Sound, sound-state, shape-gapless, groups-length, group-below}
+
+module _ {m : Model} {plan state numbers : List ℕ} (p : Placed m plan state numbers) where
+  pub placed-sound : Sound m state
+  placed-sound = sound-state m state (p .passes)
+
+  pub placed-few : length state ≤ 32
+  placed-few = omega (arith, placed-sound .long, p .valid .few-machines)
+
+  -- the modes
+  pub placed-mode : (i : ℕ) → i < length state → modeOf state i < modeCount m i
+  placed-mode i h = placed-sound .fits i (omega (arith, placed-sound .long))
+
+  pub placed-small : (i : ℕ) → i < length state → modeOf state i < 8
+  placed-small i h =
+      omega (arith, placed-mode i h, p .valid .machines-valid i (omega (arith, placed-sound .long)) .few-modes)
+
+  -- the live modes, in an array of 32
+  pub placed-live : {live : List ℕ} → live ≡ pad 32 (m .live) → length live ≡ 32
+  placed-live e =
+      ap length e ∙ length-pad 32 (m .live) (omega (arith, p .valid .same-length, p .valid .few-machines))
+
+  -- the groups
+  pub placed-groups : length (groupsIn m plan) ≡ machineCount m
+  placed-groups = groups-length m (p .valid) plan (p .shaped)
+
+  pub placed-count : groupCount (groupsIn m plan) ≤ 32
+  placed-count =
+      let used = gapless-count (groupsIn m plan) (shape-gapless m plan (p .shaped)) in
+      omega (arith, placed-groups, p .valid .few-machines)
+
+  pub placed-numbers : length numbers ≡ machineCount m
+  placed-numbers = ap length (p .numbered) ∙ placed-groups
+
+  pub placed-group : (i : ℕ) → groupOf numbers i ≡ groupOf (groupsIn m plan) i
+  placed-group i = ap (λ xs. getD xs i 0) (p .numbered)
+
+  pub placed-below : (i : ℕ) → i < machineCount m → groupOf numbers i < groupCount (groupsIn m plan)
+  placed-below i h = omega (arith, placed-group i, group-below m (p .valid) plan (p .shaped) i h)
+
+  -- any number, also behind those of the machines, is below 32
+  pub placed-number : (i : ℕ) → groupOf numbers i < 32
+  placed-number i =
+      by-cases (ltb i (machineCount m))
+      (λ t. omega (arith, placed-below i (ltb-true i (machineCount m) t), placed-count))
+      (λ f.
+      let h : machineCount m ≤ i = ltb-false i (machineCount m) f in
+      omega (arith, placed-group i, List·getD-eq-default (groupsIn m plan) 0 {n = i} (omega (arith, placed-groups))))
+
+module _ {m : Model} {plan state facts zeros starts : List ℕ} (kept : Kept m plan state facts zeros starts) where
+  -- the numbers of the machines that the state has
+  pub kept-placed : {numbers : List ℕ} → numbers ≡ numbersIn facts (length state) → Placed m plan state numbers
+  kept-placed e =
+      record {
+        valid = kept .placed .valid;
+        shaped = kept .placed .shaped;
+        passes = kept .placed .passes;
+        numbered = e ∙ ap (numbersIn facts) (placed-sound (kept .placed) .long) ∙ kept .placed .numbered;
+      }
+
+  -- where the machines stand in mode 0
+  pub kept-held : {numbers weights : List ℕ} → numbers ≡ numbersIn facts (length state) → weights ≡ weightsIn facts
+      → ModesHeld m numbers weights zeros
+  kept-held e f = rw (kept-placed e .numbered, f) (kept .held)

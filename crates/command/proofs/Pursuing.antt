@@ -1,0 +1,98 @@
+-- A goal that leaves groups unmet, judged by 16 to 18 and then followed: what its callees are told, and what they say.
+-- Assumes nothing.
+use Prim.Native.Nat.{ℕ, _^_, _≤_, _<_}
+use mathlib.Core.Path.{_≡_, sym, _∙_}
+use mathlib.Core.Logic.{⊎-elim}
+use mathlib.Core.List.{List}
+use mathlib.Core.Bool.{true}
+use native.Mathlib.Omega.{arith}
+use lib.ListN.{length, getD}
+use Rattle.common.specs.Bits.{bit}
+use Rattle.common.specs.Lists.{pad}
+use Rattle.common.specs.Reply.{Reply, given, unless}
+use Rattle.common.proofs.Bools.{or-left, or-right, or-cases}
+use Rattle.sets.specs.Sets.{union}
+use Rattle.sets.proofs.Laws.{bit-union}
+use Rattle.sheet.specs.declared.refusal.Verdict.{Verdict}
+use Rattle.sheet.specs.declared.refusal.Verdict.the-variants.{Accepted}
+use Rattle.sheet.specs.Model.{Model}
+use Rattle.sheet.specs.Valid.{Valid}
+use Rattle.plan.specs.Groups.{groupCount}
+use Rattle.plan.specs.Outline.{verdictSays}
+use Rattle.plan.specs.Partition.{MemberSets}
+use Rattle.plan.specs.Reading.{groupsIn, wellShaped}
+use Rattle.command.specs.Goal.{Masks}
+use Rattle.command.specs.Attainable.{attainFaults}
+use Rattle.command.specs.Next.{Next, followBy, fulfil}
+use Rattle.command.specs.Question.{Allows, Placed, Kept, GroupsOnly, FailedSet, NamedBy, UpstreamOfSome}
+use Rattle.command.specs.Question.{AllowedSets, KeptGoal, numbersIn}
+use Rattle.command.proofs.CoverLoop.{above-only}
+use Rattle.command.proofs.GroupVerdict.{Top}
+use Rattle.command.proofs.LeftUnmet.{left-only, highest-left}
+use Rattle.command.proofs.Placing.{placed-few, placed-numbers, placed-number, kept-placed}
+use Rattle.command.proofs.Verdicts.{accepted-unless}
+
+module _ {m : Model} {file plan state : List ℕ} {goal : Masks} {bodies starts facts zeros named live masks : List ℕ}
+    {left : ℕ} (q : KeptGoal m file plan state goal bodies starts facts zeros named live masks left) where
+  -- what `numbers` asks
+  pub pursued-few : (length facts ≡ 128) × (length state ≤ 32)
+  pursued-few = (q .kept .long, placed-few (q .kept .placed))
+
+  -- by the numbers of the groups
+  module _ {own : List ℕ} (e : own ≡ numbersIn facts (length state)) where
+    pub pursued-placed : Placed m plan state own
+    pursued-placed = kept-placed (q .kept) e
+
+    -- what `members` asks
+    pub pursued-machines : (length own ≤ 32) × ((i : ℕ) → i < length own → getD own i 0 < 32)
+    pursued-machines =
+        let p = pursued-placed in
+        (omega (arith, placed-numbers p, p .valid .few-machines), λ i h. placed-number p i)
+
+    pub pursued-members : {machines : List ℕ} → MemberSets own machines → MemberSets (groupsIn m plan) machines
+    pursued-members sets = rw (pursued-placed .numbered) at sets
+
+    -- what `failed` tells
+    pub pursued-failed : {lost : ℕ} → ((m : Model) (plan : List ℕ) → Placed m plan state own → live ≡ pad 32 (m .live)
+        → FailedSet m plan state lost) → FailedSet m plan state lost
+    pursued-failed f = f m plan pursued-placed (q .lives)
+
+  module _ (fits : left < 2 ^ 64) where
+    pub pursued-only : GroupsOnly m plan left
+    pursued-only = left-only (q .kept .placed) (q .leaves) fits
+
+    -- the groups upstream of the unmet ones, and both together
+    module _ {above : ℕ} (up : (m : Model) (plan : List ℕ) → Valid m → wellShaped m plan ≡ true → NamedBy m plan named
+        → UpstreamOfSome m plan left above) where
+      pub pursued-upper : UpstreamOfSome m plan left above
+      pursued-upper = up m plan (q .kept .placed .valid) (q .kept .placed .shaped) (q .naming)
+
+      module _ {among : ℕ} (j : among ≡ union above left) where
+        pub pursued-among : GroupsOnly m plan among
+        pursued-among k t =
+            ⊎-elim (above-only pursued-only pursued-upper k) (pursued-only k)
+            (or-cases (bit above k) (bit left k) (sym (bit-union above left k) ∙ rw j at t))
+
+        -- what `allowed_sets` tells
+        module _ {machines wanted : List ℕ} (sets : MemberSets (groupsIn m plan) machines)
+            (f : (m : Model) (plan state starts : List ℕ) (goal : Masks) → Kept m plan state facts zeros starts
+            → Allows m goal masks → GroupsOnly m plan among → MemberSets (groupsIn m plan) machines
+            → AllowedSets m plan goal among wanted) where
+          both : AllowedSets m plan goal among wanted
+          both = f m plan state starts goal (q .kept) (q .allows) pursued-among sets
+
+          pub pursued-left : AllowedSets m plan goal left wanted
+          pursued-left =
+              record { each = λ k t. both .each k (rw (j, bit-union) (or-right (bit above k) t)) }
+
+          pub pursued-above : AllowedSets m plan goal above wanted
+          pursued-above =
+              record { each = λ k t. both .each k (rw (j, bit-union) (or-left (bit left k) t)) }
+
+    -- 16 to 18 pass, and the highest is followed
+    pub pursued-replies : (k : ℕ) {v : Verdict} {r : Reply Next}
+        → verdictSays v ≡ unless (attainFaults m plan state goal) (given tt) → v ≡ Accepted → Top left k
+        → r ≡ followBy m plan state (λ needs. fulfil m plan state needs k) goal k
+        → r ≡ unless (attainFaults m plan state goal) (fulfil m plan state goal (groupCount (groupsIn m plan)))
+    pursued-replies k e a top s =
+        s ∙ sym (accepted-unless _ e _ a ∙ highest-left (q .kept .placed) (q .leaves) k fits top)

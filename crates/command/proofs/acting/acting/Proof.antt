@@ -1,0 +1,87 @@
+use Prim.Native.Nat.{_-_, _<_}
+use native.Mathlib.Omega.{arith}
+use borrow.Author.Needs.{needs}
+use Rattle.sheet.specs.Model.{Model}
+use Rattle.sheet.specs.Index.{Indexes}
+use Rattle.plan.proofs.MoveTurns.{turn-place, turn-behind}
+use Rattle.command.proofs.ActingLoops.{Unanswered, unanswered-none, unanswered-next, unanswered-end}
+use Rattle.command.proofs.ActingLoops.{turn-head, answered-here}
+use Rattle.command.proofs.acting.acting.Statement.{statement}
+use Rattle.command.proofs.acting.acting.Tie as tie
+
+abbrev Inv-loop : tie.InvT-loop
+Inv-loop file state m command sheet mode v₀ v = (d : Model) → Indexes file sheet d → Unanswered d state (m .0) command v
+
+abbrev μ-loop : tie.MeasureT-loop
+μ-loop file state m command sheet mode v₀ v = sheet .moves - v
+
+mode-of-requires : tie.Need-mode-of-requires Inv-loop μ-loop
+mode-of-requires c κs = search needs
+
+loop-holds : tie.Need-loop-holds Inv-loop μ-loop
+loop-holds c d i = unanswered-none d _ _ _
+
+mul-start : tie.Need-mul-start Inv-loop μ-loop
+mul-start c = let l : c .before .loop .v < 250 = search turn-place in omega arith
+
+element-copy-out-start : tie.Need-element-copy-out-start Inv-loop μ-loop
+element-copy-out-start c = search turn-place
+
+cast-start : tie.Need-cast-start Inv-loop μ-loop
+cast-start c = search needs
+
+sub-body : tie.Need-sub-body Inv-loop μ-loop
+sub-body c = search turn-behind
+
+body-requires : tie.Need-body-requires Inv-loop μ-loop
+body-requires c κs = search needs
+
+answers-requires : tie.Need-answers-requires Inv-loop μ-loop
+answers-requires c κs = search turn-head
+
+cast-result : tie.Need-cast-result Inv-loop μ-loop
+cast-result c = let l : c .before .before .before .before .before .loop .v < 250 = search turn-place in omega arith
+
+returns : tie.Need-returns Inv-loop μ-loop
+returns c d i =
+    let at-body = c .before .before in
+    let at-test = at-body .before .before in
+    answered-here i (at-test .before .before .mode-of .ensures) (at-test .before .loop .inv d i)
+    (at-test .loop-test .taken) (at-body .body .ensures) (c .before .answers .ensures) (c .if1 .taken)
+
+add-v : tie.Need-add-v Inv-loop μ-loop
+add-v c = let l : c .before .before .before .before .before .loop .v < 250 = search turn-place in omega arith
+
+loop-less : tie.Need-loop-less Inv-loop μ-loop
+loop-less c = search needs
+
+loop-again : tie.Need-loop-again Inv-loop μ-loop
+loop-again c d i =
+    let at-body = c .before .before in
+    let at-test = at-body .before .before in
+    unanswered-next i (at-test .before .before .mode-of .ensures) (at-test .before .loop .inv d i)
+    (at-test .loop-test .taken) (at-body .body .ensures) (c .before .answers .ensures) (c .if1 .left)
+
+returns-2 : tie.Need-returns-2 Inv-loop μ-loop
+returns-2 c d i = unanswered-end i (c .before .loop .inv d i) (c .loop-test .left)
+
+pub acting-spec : {M : Type 1} → statement M
+acting-spec =
+    tie.close
+    (tie.spec
+    Inv-loop
+    μ-loop
+    mode-of-requires
+    loop-holds
+    mul-start
+    element-copy-out-start
+    cast-start
+    sub-body
+    body-requires
+    answers-requires
+    cast-result
+    returns
+    add-v
+    loop-less
+    loop-again
+    returns-2)

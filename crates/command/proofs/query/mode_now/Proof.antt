@@ -1,0 +1,27 @@
+use mathlib.Core.Path.{ap, _∙_}
+use Prim.Native.Nat.{ℕ, _+_}
+use lib.ListN.{getD}
+use Rattle.command.specs.Question.{presentIn}
+use borrow.Author.Needs.{needs}
+use Rattle.command.proofs.query.mode_now.Statement.{statement}
+use Rattle.command.proofs.query.mode_now.Tie as tie
+
+wide-requires : tie.Need-wide-requires
+wide-requires c κs = search needs
+
+add-wide : tie.Need-add-wide
+add-wide c = search needs
+
+shared-slice-read-wide : tie.Need-shared-slice-read-wide
+shared-slice-read-wide c = search needs
+
+wide-requires-2 : tie.Need-wide-requires-2
+wide-requires-2 c κs = search needs
+
+returns : tie.Need-returns
+unfolding presentIn
+returns c =
+    (c .wide2 .ensures .0 ∙ ap (λ (i : ℕ). getD (c .before .before .before .before .args .facts .now) (96 + i) 0) (c .before .before .wide .ensures .0), c .wide2 .ensures .1)
+
+pub mode-now-spec : {M : Type 1} → statement M
+mode-now-spec = tie.close (tie.spec wide-requires add-wide shared-slice-read-wide wide-requires-2 returns)

@@ -1,0 +1,139 @@
+-- How the code keeps one question: what its goal allows, the groups that the plan numbers, and the mode that each is in.
+use Prim.Native.Nat.{ℕ, _+_, _<_}
+use mathlib.Core.Path.{_≡_}
+use mathlib.Core.List.{List}
+use mathlib.Core.Bool.{Bool, true, false, not, _&&_, _||_}
+use lib.ListN.{length, getD}
+use lib.Dec.{eqb, ltb}
+use Rattle.common.specs.Bits.{bit, beyond}
+use Rattle.common.specs.Lists.{upTo, any, pad}
+use Rattle.common.specs.Reply.{clear}
+use Rattle.sheet.specs.Record.{part}
+use Rattle.sheet.specs.Model.{Move, Model, machineCount, modeCount}
+use Rattle.sheet.specs.Index.{Indexes}
+pub use Rattle.sheet.specs.Index.{Listed}
+use Rattle.sheet.specs.Valid.{Valid}
+use Rattle.plan.specs.Groups.{Grouping, groupOf, groupCount, namedOutside}
+use Rattle.plan.specs.Modes.{size}
+use Rattle.plan.specs.ModeSets.{ModesHeld}
+use Rattle.plan.specs.Bytes.{tableAt}
+use Rattle.plan.specs.Table.{Entry}
+use Rattle.plan.specs.Reading.{groupsIn, entryAt, wellShaped}
+use Rattle.plan.specs.Outline.{Outlined}
+use Rattle.plan.specs.Laws.{counted}
+use Rattle.plan.specs.declared.opening.Outline.{Outline}
+use Rattle.command.specs.State.{modeOf, stateFaults}
+use Rattle.command.specs.Goal.{Masks, anyMode, met, allowed}
+use Rattle.command.specs.Ancestors.{upstreamIn}
+use Rattle.command.specs.Attainable.{present, liveGroup, deadEnd}
+use Rattle.command.specs.Next.{targetOf}
+
+-- what a goal allows each machine of its modes, and nothing beyond them
+pub record Allows (m : Model) (masks : Masks) (array : List ℕ) : Type 0 where
+  pub each : (i mode : ℕ) → i < machineCount m → mode < modeCount m i
+      → bit (getD array i 0) mode ≡ bit (getD masks i anyMode) mode
+  pub within : (i : ℕ) → i < machineCount m → beyond (modeCount m i) (getD array i 0) ≡ false
+
+-- a sheet that passes, a plan in shape for it, and what is kept of both
+pub record Opened (m : Model) (file plan : List ℕ) (r : Outline) : Type 0 where
+  pub indexes : Indexes file (r .sheet) m
+  pub shaped : wellShaped m plan ≡ true
+  pub outlined : Outlined (r .sheet) m plan r
+
+-- a state that passes 13, for a plan in shape, by the plan's numbers
+pub record Placed (m : Model) (plan state numbers : List ℕ) : Type 0 where
+  pub valid : Valid m
+  pub shaped : wellShaped m plan ≡ true
+  pub passes : clear (stateFaults m state) ≡ true
+  pub numbered : numbers ≡ groupsIn m plan
+
+-- The facts of a question, in one array: of each of n machines its group and its weight, of each group its size and the
+-- mode that it is in.
+unfoldable pub numbersIn : List ℕ → ℕ → List ℕ
+numbersIn facts n = part facts 0 n
+
+unfoldable pub weightsIn : List ℕ → List ℕ
+weightsIn facts = part facts 32 32
+
+unfoldable pub sizeIn : List ℕ → ℕ → ℕ
+sizeIn facts k = getD facts (64 + k) 0
+
+unfoldable pub presentIn : List ℕ → ℕ → ℕ
+presentIn facts k = getD facts (96 + k) 0
+
+-- a question about a state, under a plan: its facts, the group modes in which each machine is in mode 0, and where the
+-- tables begin
+pub record Kept (m : Model) (plan state facts zeros starts : List ℕ) : Type 0 where
+  pub long : length facts ≡ 128
+  pub starts-long : length starts ≡ 33
+  pub placed : Placed m plan state (numbersIn facts (machineCount m))
+  pub held : ModesHeld m (groupsIn m plan) (weightsIn facts) zeros
+  pub sizes : (k : ℕ) → k < groupCount (groupsIn m plan) → sizeIn facts k ≡ size m (groupsIn m plan) k
+  pub present-modes : (k : ℕ) → k < groupCount (groupsIn m plan) → presentIn facts k ≡ present m plan state k
+  pub starts-at : (k : ℕ) → k < groupCount (groupsIn m plan) → getD starts k 0 ≡ tableAt m (groupsIn m plan) k
+
+-- a set of groups of the plan
+abbrev pub GroupsOnly : Model → List ℕ → ℕ → Type 0
+GroupsOnly m plan s = (k : ℕ) → bit s k ≡ true → k < groupCount (groupsIn m plan)
+
+module _ (m : Model) (plan state : List ℕ) where
+  -- s holds the groups that a goal leaves unmet
+  pub record UnmetSet (masks : Masks) (s : ℕ) : Type 0 where
+    pub bits : (k : ℕ) → k < 64 → bit s k ≡ not (met (groupsIn m plan) masks state k)
+
+  -- s holds the groups that are not live
+  pub record FailedSet (s : ℕ) : Type 0 where
+    pub bits : (k : ℕ) → k < 64 → bit s k ≡ not (liveGroup m plan state k)
+
+  -- of some groups, s holds those that may be stranded
+  pub record StrandedSet (masks : Masks) (among s : ℕ) : Type 0 where
+    pub bits : (k : ℕ) → bit s k ≡ (bit among k && deadEnd m plan state masks k)
+
+-- what 16 and 18 look for: of group k and those upstream of it, those that are not live; of those upstream, the stranded
+pub record Hindered (m : Model) (plan state : List ℕ) (masks : Masks) (k dead lost : ℕ) : Type 0 where
+  pub dead-bits : (a : ℕ) → bit dead a ≡ ((eqb a k || upstreamIn m plan k a) && not (liveGroup m plan state a))
+  pub lost-bits : (a : ℕ) → bit lost a ≡ (upstreamIn m plan k a && deadEnd m plan state masks a)
+
+-- for each group, the set of the other groups that its counted moves name
+pub record NamedBy (m : Model) (plan named : List ℕ) : Type 0 where
+  pub bits : (k a : ℕ) → k < 32 → bit (getD named k 0) a ≡ any (eqb a) (namedOutside m (groupsIn m plan) k (counted m plan k))
+
+-- s holds the groups upstream of group k
+pub record UpstreamSet (m : Model) (plan : List ℕ) (k s : ℕ) : Type 0 where
+  pub bits : (a : ℕ) → bit s a ≡ upstreamIn m plan k a
+
+-- s holds the groups that are upstream of one of some groups, all of them groups of the plan
+pub record UpstreamOfSome (m : Model) (plan : List ℕ) (groups s : ℕ) : Type 0 where
+  pub bits : GroupsOnly m plan groups → (a : ℕ) → bit s a ≡ any (λ k. bit groups k && upstreamIn m plan k a) (upTo 32)
+
+-- of the modes of group k, s holds those that a goal allows
+pub record AllowedSet (m : Model) (plan : List ℕ) (masks : Masks) (k s : ℕ) : Type 0 where
+  pub bits : (q : ℕ) → bit s q ≡ (ltb q (size m (groupsIn m plan) k) && allowed m (groupsIn m plan) masks k q)
+
+-- for each of some groups, the set of its modes that a goal allows
+pub record AllowedSets (m : Model) (plan : List ℕ) (masks : Masks) (among : ℕ) (sets : List ℕ) : Type 0 where
+  pub each : (k : ℕ) → bit among k ≡ true → AllowedSet m plan masks k (getD sets k 0)
+
+-- s holds the groups below 64 on which a need of a move fails
+pub record HeldUp (groups : Grouping) (state : List ℕ) (v : Move) (s : ℕ) : Type 0 where
+  pub bits : (a : ℕ) → a < 64
+      → bit s a ≡ any (λ g. eqb (groupOf groups (g .machine)) a && not (bit (g .mask) (modeOf state (g .machine)))) (v .guards)
+
+-- and none of these is the move's own
+pub record OnlyOutside (groups : Grouping) (state : List ℕ) (v : Move) (s : ℕ) : Type 0 where
+  pub held : HeldUp groups state v s
+  pub not-own : bit s (groupOf groups (v .machine)) ≡ false
+
+-- the plan's entry from the present mode of group k to its target
+unfoldable pub entryToward : Model → List ℕ → List ℕ → Masks → ℕ → Entry
+entryToward m plan state masks k = entryAt m plan k (present m plan state k) (targetOf m plan state masks k)
+
+-- a question, with what its goal allows each machine and the groups that it leaves unmet
+pub record KeptGoal (m : Model) (file plan state : List ℕ) (goal : Masks)
+    (bodies starts facts zeros named live masks : List ℕ) (left : ℕ) : Type 0 where
+  pub kept : Kept m plan state facts zeros starts
+  pub listed : Listed m file bodies
+  pub naming : NamedBy m plan named
+  pub lives : live ≡ pad 32 (m .live)
+  pub allows : Allows m goal masks
+  pub leaves : UnmetSet m plan state goal left

@@ -1,0 +1,29 @@
+// Which groups are live, as 16 judges it.
+use crate::state::mode_of;
+use plan::sizing::group_of;
+use sheet::bits::has_mode;
+use sheet::index::Machine;
+use sheet::record::wide;
+ghost use mathlib.Core.Path.{_≡_};
+ghost use mathlib.Core.List.{List};
+ghost use Prim.Native.Nat.{ℕ};
+ghost use Rattle.common.specs.Lists.{pad};
+ghost use Rattle.sheet.specs.Model.{Model};
+ghost use Rattle.command.specs.Question.{Placed, FailedSet};
+
+// The groups that are not live: a machine of theirs is in a mode that is out of order.
+pub fn failed(state: &[u8], live: &[u8], numbers: &[u8]) -> u64
+    requires { ⌜ ((m : Model) × (plan : List ℕ) × Placed m plan (now state) (now numbers) × (now live ≡ pad 32 (m .live))) ⌝ }
+    ensures { λ r. ⌜ ((m : Model) (plan : List ℕ) → Placed m plan (now (state .entry)) (now (numbers .entry))
+        → now (live .entry) ≡ pad 32 (m .live) → FailedSet m plan (now (state .entry)) r) ⌝ }
+{
+    let mut r: u64 = 0;
+    let mut i: usize = 0;
+    while i < state.len() {
+        let m = Machine(i as u8);
+        let k = group_of(numbers, m);
+        r = sets::put_if(r, wide(k.0), !has_mode(live[i], mode_of(state, m)));
+        i += 1;
+    }
+    r
+}

@@ -1,0 +1,88 @@
+// The lent state: a mode for each machine (13), and the mode that each group is in.
+use sheet::index::Machine;
+use sheet::record::byte_at;
+use sheet::record::wide;
+use sheet::refusal::Cause;
+use sheet::refusal::Verdict;
+ghost use mathlib.Core.Path.{_≡_};
+ghost use mathlib.Core.Bool.{true};
+ghost use Prim.Native.Nat.{ℕ, _≤_, _<_};
+ghost use lib.ListN.{length, getD, set};
+ghost use Rattle.common.specs.Lists.{upTo, find};
+ghost use Rattle.common.specs.Reply.{given, unless, clear};
+ghost use Rattle.sheet.specs.Model.{Model, machineCount};
+ghost use Rattle.plan.specs.Sizes.{CountsOf};
+ghost use Rattle.plan.specs.Groups.{groupCount};
+ghost use Rattle.plan.specs.Modes.{modeNumber};
+ghost use Rattle.plan.specs.ModeSets.{Weighed};
+ghost use Rattle.plan.specs.Outline.{verdictSays};
+ghost use Rattle.command.specs.State.{modes, modeOf, withMode, absentMode, stateFaults};
+
+// The place of 13 and 14 where a length is wrong.
+pub const LENGTH: usize = 255;
+
+// The mode of a machine: the only reader of a state's bytes.
+pub fn mode_of(state: &[u8], m: Machine) -> u8
+    ensures { λ r. ⌜ r ≡ modeOf (now (state .entry)) (m .0) ⌝ }
+{
+    byte_at(state, wide(m.0))
+}
+
+// Puts a machine into a mode: the only writer.
+pub fn put_mode(state: &mut [u8], m: Machine, mode: u8)
+    requires { ⌜ m .0 < length (now state) ⌝ }
+    ensures { λ _. ⌜ now (state .exit) ≡ withMode (now (state .entry)) (m .0) mode ⌝ }
+{
+    let i = wide(m.0);
+    state[i] = mode;
+}
+
+// The first of n machines whose mode is absent, or n.
+fn first_absent(state: &[u8], modes: &[u8], n: usize) -> usize
+    requires { ⌜ (n ≤ 32) × (length (now modes) ≡ 32) ⌝ }
+    ensures { λ r. ⌜ ((m : Model) → CountsOf m (now (modes .entry))
+        → r ≡ find (absentMode m (now (state .entry))) (upTo n) n) ⌝ }
+{
+    let mut i: usize = 0;
+    while i < n {
+        if modes[i] <= mode_of(state, Machine(i as u8)) {
+            return i;
+        }
+        i += 1;
+    }
+    n
+}
+
+// Tests a state for n machines of these mode counts: 13.
+pub fn check(state: &[u8], modes: &[u8], n: usize) -> Verdict
+    requires { ⌜ (n ≤ 32) × (length (now modes) ≡ 32) ⌝ }
+    ensures { λ r. ⌜ ((m : Model) → CountsOf m (now (modes .entry)) → n ≡ machineCount m
+        → verdictSays r ≡ unless (stateFaults m (now (state .entry))) (given tt)) ⌝ }
+{
+    if state.len() != n {
+        return Verdict::Refused(Cause::BadState, LENGTH);
+    }
+    let absent = first_absent(state, modes, n);
+    if absent < n {
+        return Verdict::Refused(Cause::BadState, absent);
+    }
+    Verdict::Accepted
+}
+
+// The mode that each group is in.
+pub fn present(state: &[u8], numbers: &[u8], weights: &[u8]) -> [u8; 32]
+    requires { ⌜ ((m : Model) × Weighed m (now numbers) (now weights) × (clear (stateFaults m (now state)) ≡ true)
+        × ((i : ℕ) → i < length (now numbers) → getD (now numbers) i 0 < 32)) ⌝ }
+    ensures { λ r. ⌜ ((m : Model) → Weighed m (now (numbers .entry)) (now (weights .entry))
+        → clear (stateFaults m (now (state .entry))) ≡ true → (k : ℕ) → k < 32
+        → getD r k 0 ≡ modeNumber m (now (numbers .entry)) k (modes (now (state .entry)))) ⌝ }
+{
+    let mut r = [0u8; 32];
+    let mut i: usize = 0;
+    while i < numbers.len() {
+        let k = wide(numbers[i]);
+        r[k] += mode_of(state, Machine(i as u8)) * weights[i];
+        i += 1;
+    }
+    r
+}

@@ -1,0 +1,89 @@
+// The walk: reads a sheet, a state and a goal, plans, then asks and obeys, and prints a line for each command.
+use command::method::Advice;
+use command::walking::Start;
+use command::walking::begin;
+use command::walking::turn;
+use printer::labelled;
+use printer::load;
+use printer::refusal_line;
+use printer::text;
+use sheet::index::Machine;
+ghost use Rattle.io.specs.Counts.{Counts};
+
+// A command that was sent.
+fn sent_line(m: Machine, byte: u8) {
+    labelled(b"", m.0 as u64);
+    labelled(b" ", byte as u64);
+    text(b"\n");
+}
+
+// The last line: done with so many commands, or the refusal.
+fn last_line(advice: Advice, count: u64, bound: u64) {
+    let Advice::Refused(cause, place) = advice else {
+        labelled(b"done ", count);
+        labelled(b" bound ", bound);
+        text(b"\n");
+        return;
+    };
+    refusal_line(cause, place);
+}
+
+// One turn and its line. Says whether a command was sent.
+fn obeyed(file: &[u8], plan: &[u8], state: &mut [u8], goal: &[u8], count: u64, bound: u64) -> bool {
+    let advice = turn(file, plan, state, goal);
+    let Advice::Send(m, byte) = advice else {
+        last_line(advice, count, bound);
+        return false;
+    };
+    sent_line(m, byte);
+    true
+}
+
+// Asks and obeys until no command is replied, which is after as many as the bound at the latest.
+fn obey(file: &[u8], plan: &[u8], state: &mut [u8], goal: &[u8], bound: u64) {
+    let mut count: u64 = 0;
+    while count < bound {
+        if !obeyed(file, plan, state, goal, count, bound) {
+            return;
+        }
+        count += 1;
+    }
+    obeyed(file, plan, state, goal, count, bound);
+}
+
+// A number of a buffer's bytes, all of them where it has no more.
+fn within(bytes: usize, buffer: &[u8]) -> usize
+    ensures { λ r. ⌜ Counts r (now (buffer .entry)) ⌝ }
+{
+    if buffer.len() < bytes {
+        return buffer.len();
+    }
+    bytes
+}
+
+// Prints the walk of a sheet from a state to a goal. No plan is longer than the buffer.
+pub fn print_walk(file: &[u8], state: &mut [u8], goal: &[u8]) {
+    let mut buffer = [0u8; 32944];
+    let mut scratch = [0u8; 4096];
+    let started = begin(file, &mut buffer, &mut scratch);
+    let Start::Ready(bytes, bound) = started else {
+        let Start::Stopped(cause, place) = started else {
+            return;
+        };
+        refusal_line(cause, place);
+        return;
+    };
+    let n = within(bytes, &buffer);
+    obey(file, &buffer[..n], state, goal, bound);
+}
+
+// Prints the walk of the files here. No longer file has another reply than the bytes that are read of it.
+pub fn walk() {
+    let mut file = [0u8; 73728];
+    let mut state = [0u8; 64];
+    let mut goal = [0u8; 64];
+    let n = load(b"sheet.bin", &mut file);
+    let machines = load(b"state.bin", &mut state);
+    let wishes = load(b"wish.bin", &mut goal);
+    print_walk(&file[..n], &mut state[..machines], &goal[..wishes]);
+}
