@@ -31,10 +31,6 @@ module _ {m : Model} {plan state numbers : List ℕ} (p : Placed m plan state nu
   pub placed-mode : (i : ℕ) → i < length state → modeOf state i < modeCount m i
   placed-mode i h = placed-sound .fits i (omega (arith, placed-sound .long))
 
-  pub placed-small : (i : ℕ) → i < length state → modeOf state i < 8
-  placed-small i h =
-      omega (arith, placed-mode i h, p .valid .machines-valid i (omega (arith, placed-sound .long)) .few-modes)
-
   -- the live modes, in an array of 32
   pub placed-live : {live : List ℕ} → live ≡ pad 32 (m .live) → length live ≡ 32
   placed-live e =

@@ -1,7 +1,7 @@
 -- The test of one record of a plan, step by step; the body of a record that passes it, the table of a group and the
 -- bound.
 -- Assumes nothing.
-use Prim.Native.Nat.{ℕ, _+_, _≤_, _<_}
+use Prim.Native.Nat.{ℕ, _+_, _≤_}
 use mathlib.Core.Path.{_≡_, sym, ap, _∙_}
 use mathlib.Core.List.{List}
 use mathlib.Core.Bool.{Bool, true, false, _&&_}
@@ -16,10 +16,9 @@ use Rattle.sheet.specs.Model.{Model}
 use Rattle.sheet.proofs.Records.{whole-here, part-length}
 use Rattle.plan.specs.Groups.{groupCount}
 use Rattle.plan.specs.Bytes.{tableAt}
-use Rattle.plan.specs.Reading.{isWhole, hasRecord, gapless, groupsIn, tableOfGroup, boundIn, wellShaped}
+use Rattle.plan.specs.Reading.{isWhole, hasRecord, gapless, groupsIn, boundIn}
 use Rattle.plan.specs.Outline.{boundAt}
 use Rattle.plan.proofs.Bytes.{shown-whole}
-use Rattle.plan.proofs.ShapeTests.{shape-tests}
 
 -- what `read` answers, and the test
 module _ (s : List ℕ) (at : ℕ) {r : Record} (e : r ≡ recordAt s at) (k n : ℕ) where
@@ -61,13 +60,6 @@ module _ (plan : List ℕ) (n : ℕ) {b : Bool} (e : b ≡ hasRecord plan 0 16 n
   numbers-missing f = rw (sym e ∙ f)
 
 -- In a plan in shape
-
-module _ (m : Model) (plan : List ℕ) (shaped : wellShaped m plan ≡ true) where
-  -- the body of the record of group k is its table
-  pub table-at : (k : ℕ) → k < groupCount (groupsIn m plan)
-      → bodyAt plan (tableAt m (groupsIn m plan) k) ≡ tableOfGroup m (groupsIn m plan) plan k
-  unfolding tableOfGroup
-  table-at k h = shown-body plan _ 17 _ (shape-tests m plan .0 shaped .tables k h)
 
 -- the bound is read behind the last table
 pub bound-at : (m : Model) (plan : List ℕ)
