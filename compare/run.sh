@@ -67,12 +67,15 @@ panel_says() {
     }
 }
 
-# Folders for the C example that are empty, unreadable or the stove with a state
-# or wish that is missing or faulty.
+# The stove with a state or wish that is missing or faulty, or with other cooks.
+stoves="no_wish bad_state no_state long_wish no_way contradiction long_second_wish eighth_cook"
+
+# Folders for the C example that are empty, unreadable or one of the stoves.
 panel_folders() {
-    mkdir -p "$work"/{empty,no_wish,bad_state,no_state,long_wish,no_way,unreadable/sheet.bin}
+    mkdir -p "$work"/{empty,unreadable/sheet.bin}
     local folder
-    for folder in no_wish bad_state no_state long_wish no_way; do
+    for folder in $stoves; do
+        mkdir "$work/$folder"
         cp examples/stove/*.bin "$work/$folder"
     done
     rm "$work/no_wish/wish.bin"
@@ -81,16 +84,20 @@ panel_folders() {
     printf '\x01\x01\x01\x01' >"$work/long_wish/wish.bin"
     printf '\x01\x01\x01' >"$work/no_way/state.bin"
     printf '\x03\x03\x04' >"$work/no_way/wish.bin"
+    printf '\x03\x03\x01' >"$work/contradiction/wish2.bin"
+    printf '\x01%.0s' {1..300} >"$work/long_second_wish/wish2.bin"
+    rm "$work/eighth_cook/wish.bin"
+    printf '\x01\x02' >"$work/eighth_cook/wish8.bin"
 }
 
 # Tries one build of the C example on every folder.
 panel_checks() {
     local folder
     check "$1 reads the stove by itself" panel_says "$1" stove
-    for folder in stove kitchen refused; do
+    for folder in stove kitchen two_cooks refused; do
         check "$1 on $folder" panel_says "$1" "$folder" "examples/$folder"
     done
-    for folder in empty no_wish bad_state no_state long_wish no_way unreadable; do
+    for folder in empty $stoves unreadable; do
         check "$1 on $folder" panel_says "$1" "$folder" "$work/$folder"
     done
 }

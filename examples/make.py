@@ -1,5 +1,5 @@
 #!/usr/bin/env python3
-"""Writes the example kitchens and walks: sheet.bin, state.bin and wish.bin of each.
+"""Writes the example kitchens and walks: sheet.bin, state.bin and wish.bin of each, wish2.bin for a second cook.
 What a walk prints stands beside them in expect.txt, which this does not write.
 
 make.py          writes them beside itself
@@ -257,6 +257,11 @@ def files():
         "kitchen/sheet.bin": k.sheet(),
         "kitchen/state.bin": night,
         "kitchen/wish.bin": lunch,
+        "two_cooks/sheet.bin": s.sheet(),
+        "two_cooks/state.bin": s.state(),
+        "two_cooks/wish.bin": s.wish(burner="lit"),
+        # ends with the fan
+        "two_cooks/wish2.bin": s.wish(board="off", fan="on")[:2],
         "refused/sheet.bin": refused(),
         **walks(),
     }

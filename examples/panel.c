@@ -7,8 +7,9 @@
  *     ./panel examples/stove
  *
  * The folder holds sheet.bin, state.bin and wish.bin; a missing file counts as
- * empty. The exit status is 0 for done, 1 for a refusal, 2 where the panel
- * could not work.
+ * empty. Seven more cooks may have their wishes there, wish2.bin to wish8.bin:
+ * where there is one of these, all are joined into one wish. The exit status is
+ * 0 for done, 1 for a refusal, 2 where the panel could not work.
  */
 #include <errno.h>
 #include <stdbool.h>
@@ -20,15 +21,15 @@
 
 enum status { DONE = 0, REFUSED = 1, COULD_NOT_WORK = 2 };
 
-/* Bytes to lend; without any, the pointer is null. */
+/* Bytes to lend; without any, the pointer may be null. */
 struct bytes {
     uint8_t *at;
     size_t n;
 };
 
-/* All that a round is made of. */
+/* All that a round is made of: each cook's wish, and the one that is asked for. */
 struct kitchen {
-    struct bytes sheet, plan, state, wish;
+    struct bytes sheet, plan, state, wishes[DUTY_WISHES_MAX], wish;
 };
 
 /* Stops where the panel cannot work, with what it was about and why. */
@@ -72,7 +73,7 @@ static struct bytes read_all(FILE *f)
     return b;
 }
 
-/* The bytes of a file; one that is missing counts as empty. */
+/* The bytes of a file; one that is missing counts as empty, and is null. */
 static struct bytes read_file(const char *folder, const char *file)
 {
     struct bytes b = {NULL, 0};
@@ -88,6 +89,17 @@ static struct bytes read_file(const char *folder, const char *file)
     }
     free(name);
     return b;
+}
+
+/* Reads the cooks' wishes: wish.bin, wish2.bin and so on. */
+static void read_wishes(struct kitchen *k, const char *folder)
+{
+    char file[] = "wish2.bin";
+    k->wishes[0] = read_file(folder, "wish.bin");
+    for (int i = 1; i < DUTY_WISHES_MAX; i++) {
+        file[4] = (char)('1' + i);
+        k->wishes[i] = read_file(folder, file);
+    }
 }
 
 /* What the place of a refusal is. */
@@ -108,13 +120,14 @@ static const struct cause {
     [9] = {MACHINE, "its group has more than 64 modes"},
     [10] = {NOWHERE, "the plan would have too many entries"},
     [11] = {NOWHERE, "a wish could take more than 65535 commands"},
-    [12] = {NOWHERE, "plan or scratch of a wrong length"},
+    [12] = {NOWHERE, "a lent buffer of a wrong length"},
     [13] = {MACHINE, "the state does not fit"},
     [14] = {MACHINE, "the wish does not fit"},
     [15] = {NOWHERE, "the plan does not fit the sheet"},
     [16] = {MACHINE, "its group is out of order, and the wish needs it"},
     [17] = {MACHINE, "its group has no way to what is wished"},
     [18] = {MACHINE, "its group could be stranded on the way"},
+    [19] = {MACHINE, "the wishes leave it no mode"},
 };
 
 /* The place that stands for a wrong length. */
@@ -169,6 +182,60 @@ static bool plan(struct kitchen *k)
     return !refused(reply);
 }
 
+/* Whether a cook other than the first has a wish. */
+static bool has_others(const struct kitchen *k)
+{
+    for (int i = 1; i < DUTY_WISHES_MAX; i++)
+        if (k->wishes[i].at != NULL)
+            return true;
+    return false;
+}
+
+/* Adds a wish after a byte with its length. One that is too long for the byte is
+ * cut: it still has more bytes than there are machines, and is refused so. */
+static void add_wish(struct bytes *lent, struct bytes wish)
+{
+    size_t n = wish.n < UINT8_MAX ? wish.n : UINT8_MAX;
+    lent->at[lent->n] = (uint8_t)n;
+    memcpy(lent->at + lent->n + 1, wish.at, n);
+    lent->n += n + 1;
+}
+
+static void say_bytes(struct bytes b)
+{
+    for (size_t i = 0; i < b.n; i++)
+        printf(" %u", b.at[i]);
+    printf("\n");
+}
+
+/* Joins the wishes that there are into the one that is asked for, and says it. */
+static bool join(struct kitchen *k)
+{
+    static uint8_t room[DUTY_WISHES_MAX * (UINT8_MAX + 1)], joined[DUTY_WISH_MAX];
+    struct bytes lent = {room, 0};
+    unsigned count = 0;
+    for (int i = 0; i < DUTY_WISHES_MAX; i++) {
+        if (k->wishes[i].at == NULL)
+            continue;
+        add_wish(&lent, k->wishes[i]);
+        count++;
+    }
+    uint64_t reply = duty_join(k->sheet.at, k->sheet.n, lent.at, lent.n, joined, sizeof joined);
+    if (refused(reply))
+        return false;
+    k->wish = (struct bytes){joined, duty_value(reply)};
+    printf("wishes: %u, joined:", count);
+    say_bytes(k->wish);
+    return true;
+}
+
+/* Settles what is asked for: one cook's wish as it is, or those of several. */
+static bool settle(struct kitchen *k)
+{
+    k->wish = k->wishes[0];
+    return !has_others(k) || join(k);
+}
+
 /* The next command; its value is 0 for done. */
 static uint64_t ask(const struct kitchen *k)
 {
@@ -189,9 +256,7 @@ static bool obey(struct kitchen *k, uint32_t value)
 static void say_done(const struct kitchen *k, unsigned count)
 {
     printf("done, commands: %u, state:", count);
-    for (size_t i = 0; i < k->state.n; i++)
-        printf(" %u", k->state.at[i]);
-    printf("\n");
+    say_bytes(k->state);
 }
 
 /* Asks and obeys until done. */
@@ -217,13 +282,14 @@ int main(int argc, char **argv)
     struct kitchen k = {
         .sheet = read_file(folder, "sheet.bin"),
         .state = read_file(folder, "state.bin"),
-        .wish = read_file(folder, "wish.bin"),
     };
-    bool done = check(&k) && plan(&k) && fulfil(&k);
+    read_wishes(&k, folder);
+    bool done = check(&k) && plan(&k) && settle(&k) && fulfil(&k);
     free(k.sheet.at);
     free(k.plan.at);
     free(k.state.at);
-    free(k.wish.at);
+    for (int i = 0; i < DUTY_WISHES_MAX; i++)
+        free(k.wishes[i].at);
     if (fflush(stdout) != 0)
         stop("output");
     return done ? DONE : REFUSED;

@@ -9,7 +9,7 @@
  * Each function answers 64 bits: the upper 32 are the refusal's number, or 0
  * if the call was accepted; the lower 32 are the refusal's place, or the value.
  *
- * The place is a byte of the sheet (1 to 8) or a machine (9, 13, 14, 16 to 18),
+ * The place is a byte of the sheet (1 to 8) or a machine (9, 13, 14, 16 to 19),
  * in 13 and 14 also 255 for a wrong length; in 10, 11, 12 and 15 it is 0.
  */
 #ifndef DUTY_H
@@ -34,6 +34,12 @@ extern "C" {
 
 /* The scratch of planning. */
 #define DUTY_SCRATCH 4096
+
+/* The longest wish that is accepted, a byte for each machine. */
+#define DUTY_WISH_MAX 32
+
+/* The most wishes that are joined. */
+#define DUTY_WISHES_MAX 8
 
 /* The refusal's number, 0 if there is none. */
 static inline uint32_t duty_refusal(uint64_t reply) { return (uint32_t)(reply >> 32); }
@@ -63,6 +69,14 @@ uint64_t duty_next(const uint8_t *sheet, size_t n, const uint8_t *plan, size_t p
  * changes is written into the lent state. Value: 1 if a machine changed, else 0. */
 uint64_t duty_apply(const uint8_t *sheet, size_t n, uint8_t *state, size_t state_n,
                     uint8_t machine, uint8_t command);
+
+/* Joins wishes, each lent after a byte with its length, into one that a state
+ * meets exactly if it meets each of them (refusals 1 to 8, 14, at 255 also for
+ * one wish too many or one cut short, 19, 12 if out is too short). The joined
+ * wish is as long as the longest and stands at the front of out; the bytes
+ * behind it stay. Value: the length of the joined wish. */
+uint64_t duty_join(const uint8_t *sheet, size_t n, const uint8_t *wishes, size_t wishes_n,
+                   uint8_t *out, size_t out_n);
 
 #ifdef __cplusplus
 }

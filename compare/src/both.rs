@@ -49,6 +49,15 @@ pub fn apply(sheet: &[u8], state: &mut [u8], command: Command) -> Reply<bool> {
 }
 
 #[track_caller]
+pub fn join(sheet: &[u8], wishes: &[u8], out: &mut [u8]) -> Reply<usize> {
+    let mut other = out.to_vec();
+    let by_library = Library::join(sheet, wishes, &mut other);
+    let length = same(Rust::join(sheet, wishes, out), by_library);
+    same(&*out, &other);
+    length.map(|length| length as usize)
+}
+
+#[track_caller]
 pub fn own_plan(sheet: &[u8]) -> Reply<Vec<u8>> {
     let by_library = walks::own_plan::<Library>(sheet);
     same(walks::own_plan::<Rust>(sheet), by_library)

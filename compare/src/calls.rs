@@ -39,6 +39,10 @@ pub struct Lent {
     pub state: Slot,
     pub goal: Slot,
     pub command: Command,
+    /// The goals to be joined, each after its length, and room for what they
+    /// become.
+    pub wishes: Slot,
+    pub out: Slot,
 }
 
 impl Lent {
@@ -50,11 +54,13 @@ impl Lent {
             plan: none.clone(),
             scratch: none.clone(),
             state: none.clone(),
-            goal: none,
+            goal: none.clone(),
             command: Command {
                 machine: 0,
                 command: 0,
             },
+            wishes: none.clone(),
+            out: none,
         }
     }
 }
@@ -68,7 +74,7 @@ pub struct Call {
     pub library: Side,
 }
 
-pub const CALLS: [Call; 5] = [
+pub const CALLS: [Call; 6] = [
     Call {
         name: "sheet",
         rust: sheet::<Rust>,
@@ -93,6 +99,11 @@ pub const CALLS: [Call; 5] = [
         name: "apply",
         rust: apply::<Rust>,
         library: apply::<Library>,
+    },
+    Call {
+        name: "join",
+        rust: join::<Rust>,
+        library: join::<Library>,
     },
 ];
 
@@ -129,4 +140,8 @@ fn next<V: Version>(lent: &mut Lent) -> Reply<u32> {
 
 fn apply<V: Version>(lent: &mut Lent) -> Reply<u32> {
     V::apply(lent.sheet.get(), lent.state.get_mut(), lent.command)
+}
+
+fn join<V: Version>(lent: &mut Lent) -> Reply<u32> {
+    V::join(lent.sheet.get(), lent.wishes.get(), lent.out.get_mut())
 }

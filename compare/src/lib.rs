@@ -7,6 +7,7 @@ pub mod calls;
 pub mod command;
 pub mod faults;
 pub mod groups;
+pub mod join;
 pub mod library;
 pub mod plan;
 pub mod random;

@@ -33,6 +33,14 @@ extern "C" {
         machine: u8,
         command: u8,
     ) -> u64;
+    fn duty_join(
+        sheet: *const u8,
+        n: usize,
+        wishes: *const u8,
+        wishes_n: usize,
+        out: *mut u8,
+        out_n: usize,
+    ) -> u64;
 }
 
 /// Splits a reply word: the refusal's number above, its place or the value below.
@@ -93,6 +101,19 @@ impl Version for Library {
                 state.len(),
                 command.machine,
                 command.command,
+            )
+        })
+    }
+
+    fn join(sheet: &[u8], wishes: &[u8], out: &mut [u8]) -> Reply<u32> {
+        split(unsafe {
+            duty_join(
+                sheet.as_ptr(),
+                sheet.len(),
+                wishes.as_ptr(),
+                wishes.len(),
+                out.as_mut_ptr(),
+                out.len(),
             )
         })
     }

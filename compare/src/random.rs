@@ -4,10 +4,11 @@ use crate::bits;
 use crate::calls::{Lent, Slot};
 use crate::command::Command;
 use crate::groups::{Groups, MAX_GROUP_MODES};
+use crate::join::in_one_slice;
 use crate::plan::{BOUND, GROUP_NUMBERS, NO_ROUTE, SCRATCH, TABLE};
 use crate::samples::Builder;
 use crate::shape::Plan;
-use crate::sheet::Sheet;
+use crate::sheet::{Sheet, MAX_MACHINES};
 use crate::version::Rust;
 use crate::walk::own_plan;
 
@@ -252,13 +253,18 @@ pub fn state(random: &mut Random, sheet: &Sheet) -> Vec<u8> {
 
 /// A goal for a sheet, in nearly all cases one that fits it.
 pub fn goal(random: &mut Random, sheet: &Sheet) -> Vec<u8> {
-    let mut goal = if sheet.moves() > 0 && random.once_in(2) {
+    let mut goal = wanted(random, sheet);
+    spoil(random, &mut goal);
+    goal
+}
+
+/// A goal that fits a sheet.
+fn wanted(random: &mut Random, sheet: &Sheet) -> Vec<u8> {
+    if sheet.moves() > 0 && random.once_in(2) {
         end_wanted(random, sheet)
     } else {
         many_wanted(random, sheet)
-    };
-    spoil(random, &mut goal);
-    goal
+    }
 }
 
 /// One move's end is wanted and, of other machines, at times some modes of those
@@ -294,6 +300,54 @@ fn many_wanted(random: &mut Random, sheet: &Sheet) -> Vec<u8> {
         }
     };
     (0..length).map(wanted).collect()
+}
+
+/// Up to nine goals for a sheet, of which nearly all fit it. In most cases all of
+/// them allow some state.
+pub fn goals(random: &mut Random, sheet: &Sheet) -> Vec<Vec<u8>> {
+    let agreed = !random.once_in(3);
+    let shared: Vec<u8> = (0..sheet.machines())
+        .map(|machine| (agreed as u8) << random.one_of(sheet.all(machine)))
+        .collect();
+    let number = [0, 1, 2, 2, 3, 4, 8, 9][random.below(8)];
+    (0..number)
+        .map(|_| goal_with(random, sheet, &shared))
+        .collect()
+}
+
+/// A goal that also allows each machine the given modes, in nearly all cases one
+/// that fits the sheet.
+fn goal_with(random: &mut Random, sheet: &Sheet, modes: &[u8]) -> Vec<u8> {
+    let mut goal = wanted(random, sheet);
+    for (allowed, more) in goal.iter_mut().zip(modes) {
+        *allowed |= more;
+    }
+    spoil(random, &mut goal);
+    goal
+}
+
+/// Goals in one slice, at times cut short, extended or damaged.
+fn wishes(random: &mut Random, sheet: &Sheet) -> Vec<u8> {
+    let mut lent = in_one_slice(&goals(random, sheet));
+    match random.below(12) {
+        0 => lent.truncate(random.below(lent.len() + 1)),
+        1 => lent.extend(random.byte_run(3)),
+        2 => damage(random, &mut lent),
+        _ => {}
+    }
+    lent
+}
+
+/// A buffer of other bytes for a joined goal: a byte for each machine, or fewer
+/// or more.
+fn room(random: &mut Random, sheet: &Sheet) -> Vec<u8> {
+    let machines = sheet.machines();
+    let length = match random.below(4) {
+        0 => random.below(machines),
+        1 => random.below(MAX_MACHINES + 8),
+        _ => machines,
+    };
+    random.bytes(length)
 }
 
 /// Once in a while changes a byte or the length.
@@ -433,11 +487,14 @@ fn written(
     plan.record(BOUND, &[0; 4]).end()
 }
 
-/// Everything lent for one round of calls. The scratch is full of other bytes.
+/// Everything lent for one round of calls. The scratch and the buffer of joining
+/// are full of other bytes.
 pub fn lent(random: &mut Random) -> Lent {
     let bytes = sheet_bytes(random);
     let mut lent = Lent::sheet(&bytes);
     let Ok(sheet) = Sheet::read(&bytes) else {
+        lent.wishes = Slot::new(&random.byte_run(20));
+        lent.out = Slot::new(&random.byte_run(MAX_MACHINES));
         return lent;
     };
     let plan = plan(random, &bytes, &sheet);
@@ -451,5 +508,7 @@ pub fn lent(random: &mut Random) -> Lent {
     lent.state = Slot::new(&state(random, &sheet));
     lent.goal = Slot::new(&goal(random, &sheet));
     lent.command = command(random, &sheet);
+    lent.wishes = Slot::new(&wishes(random, &sheet));
+    lent.out = Slot::new(&room(random, &sheet));
     lent
 }

@@ -2,6 +2,7 @@
 //! values are those of the C interface.
 
 use crate::command::{apply, next_command, Command, Next};
+use crate::join::join;
 use crate::plan::{plan, plan_length};
 use crate::sheet::check_sheet;
 use crate::Reply;
@@ -23,6 +24,10 @@ pub trait Version {
 
     /// Applies a command to a state; the value is 1 if a machine changed, else 0.
     fn apply(sheet: &[u8], state: &mut [u8], command: Command) -> Reply<u32>;
+
+    /// Joins goals, each lent after its length, and writes the joined one; the
+    /// value is its length.
+    fn join(sheet: &[u8], wishes: &[u8], out: &mut [u8]) -> Reply<u32>;
 }
 
 /// The version of this package.
@@ -49,5 +54,9 @@ impl Version for Rust {
 
     fn apply(sheet: &[u8], state: &mut [u8], command: Command) -> Reply<u32> {
         apply(sheet, state, command).map(u32::from)
+    }
+
+    fn join(sheet: &[u8], wishes: &[u8], out: &mut [u8]) -> Reply<u32> {
+        join(sheet, wishes, out).map(|length| length as u32)
     }
 }

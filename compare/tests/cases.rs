@@ -1,8 +1,9 @@
 //! The worked cases, in both versions: the stove, the filter, the dials and the
-//! groups of 64.
+//! groups of 64; then two cooks and one stove.
 
-use duty_compare::both::{apply, next_command, own_plan, plan_length, walk};
+use duty_compare::both::{apply, join, next_command, own_plan, plan_length, walk};
 use duty_compare::command::{Command, Next};
+use duty_compare::join::in_one_slice;
 use duty_compare::samples::{blocks, dials, filter, stove, Builder};
 use duty_compare::shape::Plan;
 use duty_compare::sheet::Sheet;
@@ -117,4 +118,65 @@ fn a_command_of_an_absent_machine_changes_nothing() {
         assert_eq!(apply(&stove(), &mut state, command), Ok(false));
     }
     assert_eq!(state, [1, 1, 1]);
+}
+
+/// Joins goals of the stove into a longer buffer, which keeps what it has behind
+/// the joined one.
+fn joined(goals: &[&[u8]]) -> Reply<Vec<u8>> {
+    let mut out = [21, 22, 23, 24, 25];
+    let length = join(&stove(), &in_one_slice(goals), &mut out)?;
+    assert_eq!(out[length..], [21, 22, 23, 24, 25][length..], "{goals:?}");
+    Ok(out[..length].to_vec())
+}
+
+#[test]
+fn two_cooks_may_agree_on_the_stove() {
+    // The burner is to be lit, and the fan is to be on with the board off.
+    let both = joined(&[&[3, 3, 2], &[1, 2]]).expect("a goal");
+    assert_eq!(both, [1, 2, 2]);
+    let printed = walk(&stove(), &[0, 0, 0], &both);
+    assert_eq!(printed, "0 1\n1 1\n2 1\n0 2\ndone 4 bound 7\n");
+}
+
+#[test]
+fn two_cooks_may_contradict_each_other() {
+    assert_eq!(joined(&[&[3, 3, 2], &[3, 2, 1]]), refuse(19, 2));
+}
+
+#[test]
+fn eight_cooks_leave_what_all_of_them_allow() {
+    let goals: [&[u8]; 8] = [
+        &[3, 3, 7],
+        &[],
+        &[3],
+        &[3, 3, 6],
+        &[],
+        &[2],
+        &[3, 3],
+        &[3, 3, 3],
+    ];
+    assert_eq!(joined(&goals), Ok(vec![2, 3, 2]));
+}
+
+#[test]
+fn one_goal_is_joined_to_itself() {
+    for goal in [&[][..], &[1], &[3, 2], &[1, 2, 4]] {
+        assert_eq!(joined(&[goal]), Ok(goal.to_vec()));
+    }
+}
+
+#[test]
+fn no_goals_or_empty_ones_are_joined_to_the_empty_one() {
+    for number in 0..9 {
+        assert_eq!(joined(&vec![&[][..]; number]), Ok(vec![]), "{number}");
+        assert_eq!(join(&stove(), &vec![0; number], &mut []), Ok(0), "{number}");
+    }
+}
+
+#[test]
+fn a_buffer_may_be_as_long_as_the_joined_goal() {
+    let mut out = [9; 3];
+    let wishes = in_one_slice(&[&[3, 3, 2], &[1, 2, 7]]);
+    assert_eq!(join(&stove(), &wishes, &mut out), Ok(3));
+    assert_eq!(out, [1, 2, 2]);
 }

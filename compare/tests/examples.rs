@@ -1,8 +1,9 @@
 //! The example kitchens, in both versions: their bytes, and what is claimed of
 //! them.
 
-use duty_compare::both::{apply, check_sheet, next_command, own_plan, walk};
+use duty_compare::both::{apply, check_sheet, join, next_command, own_plan, walk};
 use duty_compare::command::Next;
+use duty_compare::join::in_one_slice;
 use duty_compare::random::Random;
 use duty_compare::refuse;
 use duty_compare::samples::stove;
@@ -19,6 +20,19 @@ fn the_stove_is_the_stove() {
     let goal = include_bytes!("../../examples/stove/wish.bin");
     assert_eq!(sheet[..], stove());
     assert_eq!((state, goal), (&[0, 0, 0], &[1, 2, 2]));
+}
+
+#[test]
+fn two_cooks_wish_together_what_the_stove_is_wished_alone() {
+    let sheet = include_bytes!("../../examples/two_cooks/sheet.bin");
+    let state = include_bytes!("../../examples/two_cooks/state.bin");
+    let first = include_bytes!("../../examples/two_cooks/wish.bin");
+    let second = include_bytes!("../../examples/two_cooks/wish2.bin");
+    let wishes = in_one_slice(&[first.as_slice(), second]);
+    let mut out = [0; 3];
+    assert_eq!((&sheet[..], state), (&stove()[..], &[0, 0, 0]));
+    assert_eq!(join(sheet, &wishes, &mut out), Ok(3));
+    assert_eq!(&out, include_bytes!("../../examples/stove/wish.bin"));
 }
 
 #[test]

@@ -2,8 +2,9 @@
 //! source must name the same functions with the same parameters in the same
 //! order; and the header's largest sizes must be the largest.
 
-use duty_compare::both::{check_sheet, next_command, plan_length};
+use duty_compare::both::{check_sheet, join, next_command, plan_length};
 use duty_compare::command::Next;
+use duty_compare::join::in_one_slice;
 use duty_compare::plan::SCRATCH;
 use duty_compare::refuse;
 use duty_compare::samples::{fullest, longest_plan, Builder};
@@ -145,7 +146,7 @@ fn declared_in_rust(source: &str) -> Functions {
 
 #[test]
 fn the_header_declares_what_the_source_exports() {
-    assert_eq!(exported(SOURCE).len(), 5);
+    assert_eq!(exported(SOURCE).len(), 6);
     assert_eq!(declared_in_c(HEADER), exported(SOURCE));
 }
 
@@ -171,6 +172,11 @@ fn a_difference_in_the_header_is_seen() {
         ),
         (", size_t scratch_n", ""),
         ("uint8_t *scratch", "const uint8_t *scratch"),
+        ("uint8_t *out", "const uint8_t *out"),
+        (
+            "const uint8_t *wishes, size_t wishes_n",
+            "size_t wishes_n, const uint8_t *wishes",
+        ),
         // A function left out, with another result, one more.
         ("uint64_t duty_sheet(const uint8_t *sheet, size_t n);", ""),
         ("uint64_t duty_next", "uint8_t duty_next"),
@@ -192,6 +198,10 @@ fn a_difference_in_the_source_or_in_this_package_is_seen() {
         ("state: &mut [u8]", "state: &[u8]"),
         ("fn duty_sheet(", "fn duty_sheets("),
         ("pub extern \"C\" fn duty_next", "pub fn duty_next"),
+        (
+            "wishes: &[u8], out: &mut [u8]",
+            "out: &mut [u8], wishes: &[u8]",
+        ),
     ];
     for (old, new) in edits {
         let source = edited(SOURCE, old, new);
@@ -199,6 +209,7 @@ fn a_difference_in_the_source_or_in_this_package_is_seen() {
     }
     let edits = [
         ("plan: *mut u8", "plan: *const u8"),
+        ("out_n: usize", "out_n: u8"),
         ("fn duty_sheet(sheet: *const u8, n: usize) -> u64;", ""),
     ];
     for (old, new) in edits {
@@ -236,4 +247,22 @@ fn the_longest_plan_in_shape_is_accepted() {
     let ask = |plan: &[u8]| next_command(&sheet, plan, &[0; 32], &[]);
     assert_eq!(ask(&plan), Ok(Next::Done));
     assert_eq!(ask(&[&plan[..], &[0]].concat()), refuse(15, 0));
+}
+
+/// 32 machines of one mode, each named by the most goals that are joined.
+#[test]
+fn the_most_and_the_longest_goals_are_joined() {
+    let sheet = Builder::new().machines(32, 1).end();
+    let longest = vec![1; constant("DUTY_WISH_MAX")];
+    let most = vec![&longest; constant("DUTY_WISHES_MAX")];
+    let mut out = longest.clone();
+    assert_eq!(
+        join(&sheet, &in_one_slice(&most), &mut out),
+        Ok(longest.len())
+    );
+    let longer = [&longest[..], &[1]].concat();
+    let more = [&most[..], &[&longest]].concat();
+    let refused = refuse(14, 255);
+    assert_eq!(join(&sheet, &in_one_slice(&[longer]), &mut out), refused);
+    assert_eq!(join(&sheet, &in_one_slice(&more), &mut out), refused);
 }

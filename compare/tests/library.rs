@@ -1,7 +1,7 @@
 //! The proved library against the Rust version, call by call. DUTY_ROUNDS asks
 //! for more random rounds than usual, DUTY_SEED for others.
 
-use duty_compare::calls::{Call, Lent, CALLS};
+use duty_compare::calls::{Call, Lent, Slot, CALLS};
 use duty_compare::faults::faulty_sheets;
 use duty_compare::random::{lent, sheet_bytes, Random};
 use duty_compare::samples::{
@@ -50,7 +50,7 @@ fn agree(call: &Call, input: &Lent, what: &str) -> Reply<u32> {
 }
 
 /// The replies to all calls, in their order, in which both versions agree.
-fn replies(input: &Lent, what: &str) -> [Reply<u32>; 5] {
+fn replies(input: &Lent, what: &str) -> [Reply<u32>; 6] {
     CALLS.each_ref().map(|call| agree(call, input, what))
 }
 
@@ -111,18 +111,19 @@ fn on_every_byte_of_the_stove_changed_to_every_value() {
 /// How often each reply came up, over all calls.
 #[derive(Default)]
 struct Tally {
-    refused: [u64; 19],
+    refused: [u64; 20],
     unfit: u64,
     written: u64,
     done: u64,
     commands: u64,
     changed: u64,
     unchanged: u64,
+    joined: [u64; 6],
 }
 
 impl Tally {
-    fn add(&mut self, input: &Lent, replies: [Reply<u32>; 5]) {
-        let [.., plan, next, apply] = replies;
+    fn add(&mut self, input: &Lent, replies: [Reply<u32>; 6]) {
+        let [.., plan, next, apply, join] = replies;
         for refusal in replies.into_iter().filter_map(Reply::err) {
             self.refused[refusal.number as usize] += 1;
         }
@@ -132,13 +133,16 @@ impl Tally {
         self.commands += next.is_ok_and(|value| value > 0) as u64;
         self.changed += (apply == Ok(1)) as u64;
         self.unchanged += (apply == Ok(0)) as u64;
+        if let Some(reply) = joined(join) {
+            self.joined[reply] += 1;
+        }
     }
 
     /// How often the least frequent came up.
     fn least(&self) -> Option<u64> {
         let others = [self.unfit, self.written, self.done, self.commands];
         let applied = [self.changed, self.unchanged];
-        let all = [&self.refused[1..], &others, &applied].concat();
+        let all = [&self.refused[1..], &others, &applied, &self.joined].concat();
         all.into_iter().min()
     }
 }
@@ -147,15 +151,17 @@ impl Display for Tally {
     fn fmt(&self, out: &mut Formatter) -> std::fmt::Result {
         write!(
             out,
-            "refused 1 to 18: {:?}, 15 for an entry: {}, plans written: {}, done: {}, \
-             commands: {}, changed: {}, unchanged: {}",
+            "refused 1 to 19: {:?}, 15 for an entry: {}, plans written: {}, done: {}, \
+             commands: {}, changed: {}, unchanged: {}, joining (empty, other, \
+             14 for a length, 14 at a machine, 19, 12): {:?}",
             &self.refused[1..],
             self.unfit,
             self.written,
             self.done,
             self.commands,
             self.changed,
-            self.unchanged
+            self.unchanged,
+            self.joined
         )
     }
 }
@@ -165,6 +171,20 @@ fn in_shape(input: &Lent) -> bool {
     Sheet::read(input.sheet.get())
         .and_then(|sheet| Plan::read(&sheet, input.plan.get()).map(|_| ()))
         .is_ok()
+}
+
+/// Which reply of joining one is: an empty goal, another, 14 for a length, 14 at a
+/// machine, 19, 12; none for a refused sheet.
+fn joined(reply: Reply<u32>) -> Option<usize> {
+    match reply.map_err(|refusal| (refusal.number, refusal.place)) {
+        Ok(0) => Some(0),
+        Ok(_) => Some(1),
+        Err((14, 255)) => Some(2),
+        Err((14, _)) => Some(3),
+        Err((19, _)) => Some(4),
+        Err((12, _)) => Some(5),
+        Err(_) => None,
+    }
 }
 
 #[test]
@@ -184,6 +204,28 @@ fn on_random_rounds() {
         rounds < 20_000 || tally.least() >= Some(10),
         "a reply hardly tried"
     );
+}
+
+/// Machines of two modes and of one, and every slice of up to nine bytes from 0
+/// to 3; what is joined may have one byte.
+#[test]
+fn on_every_short_slice_of_wishes() {
+    let sheet = Builder::new().machines(1, 2).machines(1, 1).end();
+    let join = Call::named("join").expect("a call");
+    let mut input = Lent::sheet(&sheet);
+    input.out = Slot::new(&[9]);
+    let mut seen = [0; 6];
+    for length in 0..10 {
+        for number in 0..1usize << (2 * length) {
+            let bytes: Vec<u8> = (0..length)
+                .map(|at| (number >> (2 * at) & 3) as u8)
+                .collect();
+            input.wishes = Slot::new(&bytes);
+            let reply = joined(agree(join, &input, "a short slice"));
+            seen[reply.expect("a sheet that passes")] += 1;
+        }
+    }
+    assert!(seen.iter().all(|&times| times > 0), "{seen:?}");
 }
 
 #[test]

@@ -1,13 +1,14 @@
 //! The Rust version by itself on random rounds of every call.
 
 use duty_compare::calls::CALLS;
-use duty_compare::random::{lent, sheet, Random};
-use duty_compare::sheet::Sheet;
+use duty_compare::join::{in_one_slice, join};
+use duty_compare::random::{goals, lent, sheet, Random};
+use duty_compare::sheet::{Sheet, MAX_MACHINES};
 
 /// Also shows that the rounds try every refusal there is.
 #[test]
 fn refused_calls_change_no_lent_byte() {
-    let mut seen = [0; 19];
+    let mut seen = [0; 20];
     for seed in 0..20_000 {
         let input = lent(&mut Random::new(seed));
         for call in &CALLS {
@@ -23,21 +24,23 @@ fn refused_calls_change_no_lent_byte() {
             seen[number as usize] += 1;
         }
     }
-    let missed: Vec<_> = (1..19).filter(|&number| seen[number] < 20).collect();
+    let missed: Vec<_> = (1..20).filter(|&number| seen[number] < 20).collect();
     assert_eq!(missed, [], "seldom or never refused so: {seen:?}");
 }
 
-/// What of a call may be written: nothing but plan, scratch and state.
+/// What of a call may be written: nothing but plan, scratch, state and the front
+/// of the buffer for joined goals.
 #[test]
 fn accepted_calls_write_where_they_should() {
     for seed in 0..5_000 {
         let input = lent(&mut Random::new(seed));
         for call in &CALLS {
             let mut after = input.clone();
-            let accepted = (call.rust)(&mut after).is_ok();
-            let planned = call.name == "plan" && accepted;
+            let reply = (call.rust)(&mut after);
+            let planned = call.name == "plan" && reply.is_ok();
             assert_eq!(after.sheet, input.sheet, "seed {seed}: {}", call.name);
             assert_eq!(after.goal, input.goal, "seed {seed}: {}", call.name);
+            assert_eq!(after.wishes, input.wishes, "seed {seed}: {}", call.name);
             assert!(
                 planned || after.plan == input.plan,
                 "seed {seed}: {}",
@@ -56,8 +59,47 @@ fn accepted_calls_write_where_they_should() {
                 },
                 "seed {seed}"
             );
+            let front = match (call.name, reply) {
+                ("join", Ok(length)) => length as usize,
+                _ => 0,
+            };
+            assert_eq!(
+                after.out.get()[front..],
+                input.out.get()[front..],
+                "seed {seed}: {}",
+                call.name
+            );
         }
     }
+}
+
+fn meets(state: &[u8], goal: &[u8]) -> bool {
+    goal.iter()
+        .zip(state)
+        .all(|(mask, mode)| mask >> mode & 1 == 1)
+}
+
+#[test]
+fn a_state_meets_the_joined_goal_exactly_if_it_meets_each() {
+    let mut seen = [0; 2];
+    for seed in 0..5_000 {
+        let random = &mut Random::new(seed);
+        let bytes = sheet(random);
+        let read = Sheet::read(&bytes).unwrap_or_else(|refusal| panic!("seed {seed}: {refusal:?}"));
+        let goals = goals(random, &read);
+        let mut out = [0; MAX_MACHINES];
+        let Ok(length) = join(&bytes, &in_one_slice(&goals), &mut out) else {
+            continue;
+        };
+        for _ in 0..4 {
+            let mode = |machine| random.below(read.count(machine) as usize) as u8;
+            let state: Vec<u8> = (0..read.machines()).map(mode).collect();
+            let each = goals.iter().all(|goal| meets(&state, goal));
+            assert_eq!(meets(&state, &out[..length]), each, "seed {seed}");
+            seen[each as usize] += (goals.len() > 1) as u32;
+        }
+    }
+    assert!(seen.iter().all(|&times| times > 1000), "{seen:?}");
 }
 
 #[test]

@@ -1,9 +1,12 @@
 //! The refusal table, in both versions: an example or more of each number, with
 //! its place.
 
-use duty_compare::both::{apply, check_sheet, next_command, own_plan, plan, plan_length, walk};
+use duty_compare::both::{
+    apply, check_sheet, join, next_command, own_plan, plan, plan_length, walk,
+};
 use duty_compare::command::Command;
 use duty_compare::faults::faulty_sheets;
+use duty_compare::join::in_one_slice;
 use duty_compare::plan::SCRATCH;
 use duty_compare::refuse;
 use duty_compare::samples::{blocks, dials, filter, stove, stove_records, Builder};
@@ -38,6 +41,7 @@ fn every_call_refuses_a_faulty_sheet_alike() {
             refuse(number, place),
             "{name}"
         );
+        assert_eq!(join(&sheet, &[1], &mut []), refuse(number, place), "{name}");
         assert_eq!(
             walk(&sheet, &[], &[]),
             format!("refused {number} {place}\n"),
@@ -139,6 +143,81 @@ fn refusal_14_for_goals() {
     refused(&[0, 0, 0], &[1, 4, 1], 14, 1);
     refused(&[0, 0, 0], &[1, 1, 8], 14, 2);
     refused(&[0, 0, 0], &[0, 1, 1, 1], 14, 255);
+}
+
+/// Joins goals of the stove, lent as bytes, into a buffer of other bytes and
+/// asserts that a refusal leaves it.
+fn not_joined(wishes: &[u8], room: usize, number: u32, place: usize) {
+    let mut out = vec![7; room];
+    let reply = join(&stove(), wishes, &mut out);
+    assert_eq!(reply, refuse(number, place), "{wishes:?} {room}");
+    assert!(out.iter().all(|&byte| byte == 7), "{wishes:?} {room}");
+}
+
+#[test]
+fn refusal_14_for_goals_that_are_cut_short() {
+    not_joined(&[1], 3, 14, 255);
+    not_joined(&[3, 1, 2], 3, 14, 255);
+    not_joined(&[3, 1, 2, 2, 1], 3, 14, 255);
+    not_joined(&[255], 3, 14, 255);
+    // Before 14 of those that are whole.
+    not_joined(&[1, 0, 2, 1], 3, 14, 255);
+}
+
+#[test]
+fn refusal_14_for_a_ninth_goal() {
+    let goals = [[1, 2]; 8].concat();
+    let ninth = |last: &[u8]| [&goals, last].concat();
+    assert_eq!(join(&stove(), &goals, &mut [7]), Ok(1));
+    not_joined(&ninth(&[1, 2]), 3, 14, 255);
+    // Of no machine, and not whole.
+    not_joined(&ninth(&[0]), 3, 14, 255);
+    not_joined(&ninth(&[3]), 3, 14, 255);
+    not_joined(&[0; 9], 3, 14, 255);
+    // Before 14 of the others, and before 19.
+    not_joined(&[[1, 0]; 9].concat(), 3, 14, 255);
+    not_joined(&[[1, 1], [1, 2]].concat().repeat(5), 3, 14, 255);
+}
+
+#[test]
+fn refusal_14_for_goals_to_be_joined() {
+    let unfit = |goals: &[&[u8]], place| not_joined(&in_one_slice(goals), 3, 14, place);
+    unfit(&[&[1, 2, 2, 1]], 255);
+    unfit(&[&[0]], 0);
+    unfit(&[&[1, 4]], 1);
+    unfit(&[&[1, 2, 2], &[3, 3, 8]], 2);
+    // The first that does not fit counts, its length before its bytes.
+    unfit(&[&[1, 4], &[0]], 1);
+    unfit(&[&[1, 4], &[0, 1, 1, 1]], 1);
+    unfit(&[&[0, 1, 1, 1], &[1, 4]], 255);
+    // A later one's comes before 19 of those before it.
+    unfit(&[&[1], &[2], &[3, 4]], 1);
+    unfit(&[&[1], &[2], &[3, 3, 3, 3]], 255);
+    // Before 12.
+    not_joined(&[1, 0], 0, 14, 0);
+    // A failed mode may be wished for.
+    assert_eq!(join(&oven(), &[2, 4, 4], &mut [0; 2]), Ok(2));
+}
+
+#[test]
+fn refusal_19_names_the_first_machine_without_a_mode() {
+    let apart = |goals: &[&[u8]], place| not_joined(&in_one_slice(goals), 3, 19, place);
+    apart(&[&[1], &[2]], 0);
+    apart(&[&[3, 1, 1], &[3, 2, 2]], 1);
+    apart(&[&[3, 2, 3], &[1], &[1, 3, 4]], 2);
+    // Each two of them agree.
+    apart(&[&[3, 3, 3], &[3, 3, 5], &[3, 3, 6]], 2);
+    // Before 12.
+    not_joined(&[1, 1, 1, 2], 0, 19, 0);
+}
+
+#[test]
+fn refusal_12_for_a_buffer_shorter_than_the_joined_goal() {
+    let wishes = in_one_slice(&[&[1][..], &[3, 2, 2]]);
+    for room in 0..3 {
+        not_joined(&wishes, room, 12, 0);
+    }
+    not_joined(&[1, 1], 0, 12, 0);
 }
 
 #[test]

@@ -1,5 +1,6 @@
 //! Both versions against recorded replies, where they are at hand: in
-//! `shared/vectors` beside the repository, or where DUTY_VECTORS says.
+//! `shared/vectors` and `shared/ticket-vectors` beside the repository, or where
+//! DUTY_VECTORS and DUTY_TICKET_VECTORS say.
 
 use duty_compare::calls::{Call, Lent, Side, Slot};
 use duty_compare::command::{Command, Next};
@@ -13,22 +14,56 @@ use std::hint::black_box;
 use std::io::{ErrorKind, Write};
 use std::path::{Path, PathBuf};
 
-/// The folder that DUTY_VECTORS names, which must be there, else the one beside
-/// the repository. None where nothing is shared with it.
-fn folder() -> Option<PathBuf> {
-    let shared = Path::new(env!("CARGO_MANIFEST_DIR")).join("../../shared");
-    let named = std::env::var_os("DUTY_VECTORS").map(PathBuf::from);
-    if named.is_none() && !shared.exists() {
-        say("skipped: no DUTY_VECTORS, and no shared folder beside the repository".to_string());
-        return None;
+/// A file of recorded calls, the shared folder that has it, and the setting that
+/// names another.
+struct Recording {
+    setting: &'static str,
+    folder: &'static str,
+    file: &'static str,
+}
+
+/// The calls of document 01.
+const FIRST: Recording = Recording {
+    setting: "DUTY_VECTORS",
+    folder: "vectors",
+    file: "calls.txt",
+};
+
+/// All calls, as the requests of document 02 up to this one leave them.
+const LATEST: Recording = Recording {
+    setting: "DUTY_TICKET_VECTORS",
+    folder: "ticket-vectors",
+    file: "L1.txt",
+};
+
+impl Recording {
+    /// The folder that the setting names, which must be there, else the one
+    /// beside the repository. None where nothing is shared with it.
+    fn folder(&self) -> Option<PathBuf> {
+        let setting = self.setting;
+        let shared = Path::new(env!("CARGO_MANIFEST_DIR")).join("../../shared");
+        let named = std::env::var_os(setting).map(PathBuf::from);
+        if named.is_none() && !shared.exists() {
+            say(format!(
+                "skipped: no {setting}, and no shared folder beside the repository"
+            ));
+            return None;
+        }
+        let folder = named.unwrap_or_else(|| shared.join(self.folder));
+        assert!(
+            folder.is_dir(),
+            "no vectors: `{}` is not a folder ({setting} says where they are)",
+            folder.display()
+        );
+        Some(folder)
     }
-    let folder = named.unwrap_or_else(|| shared.join("vectors"));
-    assert!(
-        folder.is_dir(),
-        "no vectors: `{}` is not a folder (DUTY_VECTORS says where they are)",
-        folder.display()
-    );
-    Some(folder)
+
+    /// What the file holds, if its folder is at hand.
+    fn text(&self) -> Option<String> {
+        let path = self.folder()?.join(self.file);
+        let read = fs::read_to_string(&path);
+        Some(read.unwrap_or_else(|error| panic!("{}: {error}", path.display())))
+    }
 }
 
 /// Writes a line that the test harness does not hold back.
@@ -77,18 +112,19 @@ impl Blobs {
         Slot::new(&self.by_name[name])
     }
 
-    /// The name of a recorded call and all that is lent for it.
+    /// The name of a recorded call and all that is lent for it. Slips, and a
+    /// count of finished groups, are none yet.
     fn lent(&self, call: &str) -> (&'static str, Lent) {
         let fields = fields(call);
         let mut lent = Lent::sheet(&self.by_name[fields[1]]);
         let name = match fields[..] {
-            ["len", _] => "plan_length",
-            ["plan", _, length, scratch] => {
+            ["len", _] | ["len", _, "0"] => "plan_length",
+            ["plan", _, length, scratch] | ["plan", _, length, scratch, "0"] => {
                 lent.plan = Slot::new(&vec![0x5A; number(length)]);
                 lent.scratch = Slot::new(&vec![0xC3; number(scratch)]);
                 "plan"
             }
-            ["next", _, plan, state, goal] => {
+            ["next", _, plan, state, goal] | ["next", _, plan, state, goal, "-", "0", "0"] => {
                 lent.plan = self.slot(plan);
                 lent.state = Slot::new(&hex(state));
                 lent.goal = Slot::new(&hex(goal));
@@ -98,6 +134,11 @@ impl Blobs {
                 lent.state = Slot::new(&hex(state));
                 lent.command = to(machine, command);
                 "apply"
+            }
+            ["join", _, wishes, length] => {
+                lent.wishes = Slot::new(&hex(wishes));
+                lent.out = Slot::new(&vec![0x69; number(length)]);
+                "join"
             }
             _ => panic!("unknown call {call}"),
         };
@@ -119,6 +160,11 @@ impl Blobs {
                 lent.state = Slot::new(&hex(state));
                 Ok((word == "changed") as u32)
             }
+            ["bytes", written] => {
+                let written = hex(written);
+                lent.out.get_mut()[..written.len()].copy_from_slice(&written);
+                Ok(written.len() as u32)
+            }
             [length] => Ok(number(length)),
             _ => panic!("unknown reply {reply}"),
         }
@@ -132,18 +178,17 @@ fn to(machine: &str, command: &str) -> Command {
     }
 }
 
-/// The calls of calls.txt with their replies.
+/// The calls of a file with their replies.
 fn calls(text: &str) -> Vec<(&str, &str)> {
     let calls = text.lines().filter_map(|line| line.split_once(" = "));
     let calls: Vec<_> = calls.collect();
-    assert!(!calls.is_empty(), "calls.txt holds no calls");
+    assert!(!calls.is_empty(), "no calls are recorded");
     calls
 }
 
 /// Makes every recorded call in one version.
-fn calls_agree(version: &str, side: fn(&Call) -> Side) {
-    let Some(folder) = folder() else { return };
-    let text = fs::read_to_string(folder.join("calls.txt")).expect("calls.txt");
+fn calls_agree(recording: Recording, version: &str, side: fn(&Call) -> Side) {
+    let Some(text) = recording.text() else { return };
     let (blobs, calls) = (Blobs::read(&text), calls(&text));
     for (call, reply) in &calls {
         let (name, mut lent) = blobs.lent(call);
@@ -154,27 +199,36 @@ fn calls_agree(version: &str, side: fn(&Call) -> Side) {
         assert!(black_box(lent) == left, "{call}: other bytes left");
     }
     say(format!(
-        "{} recorded calls agree with {version}",
-        calls.len()
+        "{} recorded calls of {} agree with {version}",
+        calls.len(),
+        recording.file
     ));
 }
 
 #[test]
-fn recorded_calls_agree_with_the_rust_version() {
-    calls_agree(Rust::NAME, |call| call.rust);
+fn first_calls_agree_with_the_rust_version() {
+    calls_agree(FIRST, Rust::NAME, |call| call.rust);
 }
 
 #[test]
-fn recorded_calls_agree_with_the_library() {
-    calls_agree(Library::NAME, |call| call.library);
+fn first_calls_agree_with_the_library() {
+    calls_agree(FIRST, Library::NAME, |call| call.library);
+}
+
+#[test]
+fn latest_calls_agree_with_the_rust_version() {
+    calls_agree(LATEST, Rust::NAME, |call| call.rust);
+}
+
+#[test]
+fn latest_calls_agree_with_the_library() {
+    calls_agree(LATEST, Library::NAME, |call| call.library);
 }
 
 /// Every call tests 1 to 8 of its sheet first, so the library's check of the
 /// sheet must refuse exactly where the call was refused by such a number.
-#[test]
-fn the_library_refuses_recorded_sheets_as_recorded() {
-    let Some(folder) = folder() else { return };
-    let text = fs::read_to_string(folder.join("calls.txt")).expect("calls.txt");
+fn sheets_agree(recording: Recording) {
+    let Some(text) = recording.text() else { return };
     let (blobs, calls) = (Blobs::read(&text), calls(&text));
     let mut refused = 0;
     for (call, reply) in &calls {
@@ -185,11 +239,22 @@ fn the_library_refuses_recorded_sheets_as_recorded() {
         assert_eq!(cause, of_the_sheet, "{call}");
         refused += cause.is_some() as u32;
     }
-    assert!(refused > 0, "calls.txt refuses no sheet");
+    assert!(refused > 0, "no refused sheet is recorded");
     say(format!(
-        "{} recorded sheets agree with the library, {refused} of them refused",
-        calls.len()
+        "{} recorded sheets of {} agree with the library, {refused} of them refused",
+        calls.len(),
+        recording.file
     ));
+}
+
+#[test]
+fn the_library_refuses_the_first_sheets_as_recorded() {
+    sheets_agree(FIRST);
+}
+
+#[test]
+fn the_library_refuses_the_latest_sheets_as_recorded() {
+    sheets_agree(LATEST);
 }
 
 /// Whether a folder has one of the names that the vectors' README gives them.
@@ -210,7 +275,7 @@ fn bytes(path: PathBuf) -> Vec<u8> {
 
 /// Walks every recorded case in one version.
 fn walks_agree<V: Version>() {
-    let Some(folder) = folder() else { return };
+    let Some(folder) = FIRST.folder() else { return };
     let mut count = 0;
     for entry in fs::read_dir(folder).expect("the vectors") {
         let path = entry.expect("an entry").path();

@@ -6,6 +6,7 @@
 
 use duty_compare::calls::{Call, Lent, Side, Slot, CALLS};
 use duty_compare::command::Command;
+use duty_compare::join::{in_one_slice, MAX_GOALS};
 use duty_compare::plan::SCRATCH;
 use duty_compare::samples::{blocks, chain, dials, fullest, stove};
 use duty_compare::sheet::{Sheet, MAX_MACHINES};
@@ -47,6 +48,13 @@ impl Input {
         input
     }
 
+    /// For joining alone, of these goals.
+    fn joined<G: AsRef<[u8]>>(name: &'static str, sheet: &[u8], goals: &[G]) -> Self {
+        let mut input = Input::new(name, sheet).only("join");
+        input.lent.wishes = Slot::new(&in_one_slice(goals));
+        input
+    }
+
     fn serves(&self, call: &Call) -> bool {
         self.only.is_none_or(|name| name == call.name)
     }
@@ -63,6 +71,7 @@ fn inputs() -> Vec<Input> {
         Input::asked("kitchen-done", KITCHEN, &[0; 20], &[]),
     ];
     inputs.extend(chains());
+    inputs.extend(eight_wishes());
     inputs
 }
 
@@ -87,12 +96,28 @@ fn chains() -> [Input; 4] {
     ]
 }
 
+/// As many goals as are joined, each for all machines of the longest chain; then
+/// with the last machine left without a mode, refused as 19.
+fn eight_wishes() -> [Input; 2] {
+    let sheet = chain(MAX_MACHINES as u8);
+    let last = MAX_MACHINES - 1;
+    let agreed = [[3; MAX_MACHINES]; MAX_GOALS];
+    let mut apart = agreed;
+    (apart[0][last], apart[MAX_GOALS - 1][last]) = (1, 2);
+    [
+        Input::joined("eight-wishes", &sheet, &agreed),
+        Input::joined("eight-wishes-19", &sheet, &apart),
+    ]
+}
+
 /// A sheet with its own plan, or zeros as long where there is none, every
-/// machine in mode 0 and wanted in mode 1, and the command of the first move.
+/// machine in mode 0 and wanted in mode 1, the command of the first move, and a
+/// second goal to be joined: mode 0 or 1 for the first half of the machines.
 fn prepared(bytes: &[u8]) -> Lent {
     let sheet = Sheet::read(bytes).expect("a sheet");
     let length = Rust::plan_length(bytes).unwrap_or(0);
     let goal = vec![2; sheet.machines()];
+    let other = vec![3; sheet.machines() / 2];
     let first = sheet.step(0);
     Lent {
         plan: Slot::new(&own_plan::<Rust>(bytes).unwrap_or(vec![0; length as usize])),
@@ -103,6 +128,8 @@ fn prepared(bytes: &[u8]) -> Lent {
             machine: first.machine as u8,
             command: first.command,
         },
+        wishes: Slot::new(&in_one_slice(&[goal, other])),
+        out: Slot::new(&vec![0; sheet.machines()]),
         ..Lent::sheet(bytes)
     }
 }

@@ -8,13 +8,13 @@ use native.Mathlib.Omega.{arith}
 use borrow.Author.Count.{below-more}
 use borrow.Author.Tests.{le-leb}
 use lib.ListN.{length, getD}
-use Rattle.common.specs.Lists.{upTo, any, find}
+use Rattle.common.specs.Lists.{upTo, find}
 use Rattle.common.specs.Reply.{Reply, given, refused, unless}
-use Rattle.common.proofs.Bools.{true-false, true-of-not-false, false-of-not-true}
+use Rattle.common.proofs.Bools.{true-false}
 use Rattle.common.proofs.Lists.{any-none}
 use Rattle.common.proofs.Members.{upTo-mem}
 use Rattle.common.proofs.Reply.{unless-clear}
-use Rattle.common.proofs.Search.{find-upTo-is, find-upTo-none, find-holds, find-none, find-upTo-below, find-upTo-before}
+use Rattle.common.proofs.Search.{find-upTo-is, find-upTo-none, find-holds, find-upTo-before, first-some, first-missing}
 use Rattle.sheet.specs.Model.{Model, machineCount, modeCount}
 use Rattle.plan.specs.Sizes.{CountsOf}
 use Rattle.command.specs.State.{modeOf, absentMode, stateFaults}
@@ -58,8 +58,7 @@ module _ (m : Model) (state : List ℕ) {n : ℕ} (all : n ≡ machineCount m) w
     pub mode-refused : a < n → refused 13 a ≡ stateReply m state
     unfolding stateFaults
     mode-refused l =
-        let some : any (absentMode m state) (upTo n) ≡ true
-        = true-of-not-false (λ f. omega (arith, find-none (absentMode m state) (upTo n) n f)) in
+        let some = first-some (absentMode m state) first l in
         let wrong : absentMode m state a ≡ true = rw first (find-holds (absentMode m state) (upTo n) n some) in
         sym
         (wrong-mode m state [] _ (long ∙ all)
@@ -72,8 +71,7 @@ module _ (m : Model) (state : List ℕ) {n : ℕ} (all : n ≡ machineCount m) w
 
     pub state-accepted : n ≤ a → given tt ≡ stateReply m state
     state-accepted l =
-        let none : any (absentMode m state) (upTo n) ≡ false
-        = false-of-not-true (λ t. omega (arith, find-upTo-below (absentMode m state) n n t)) in
+        let none = first-missing (absentMode m state) first l in
         sym
         (unless-clear _ _
         (state-sound m state

@@ -10,10 +10,10 @@ use borrow.Author.Tests.{lt-ltb, le-ltb, eq-eqb, ne-eqb}
 use lib.Dec.{eqb}
 use lib.ListN.{length}
 use Rattle.common.specs.Bits.{beyond}
-use Rattle.common.specs.Lists.{upTo, any, find}
+use Rattle.common.specs.Lists.{upTo, find}
 use Rattle.common.specs.Reply.{Reply, given, refused, unless}
-use Rattle.common.proofs.Bools.{true-of-not-false, false-of-not-true, or-left, or-right, or-false-intro}
-use Rattle.common.proofs.Search.{find-holds, find-none, find-upTo-below, find-upTo-before, find-upTo-is, find-upTo-none}
+use Rattle.common.proofs.Bools.{or-left, or-right, or-false-intro}
+use Rattle.common.proofs.Search.{find-upTo-is, find-upTo-none, first-some, first-place, first-missing}
 use Rattle.common.proofs.Reply.{unless-clear, unless-first, unless-later}
 use Rattle.sheet.specs.Record.{byte}
 use Rattle.sheet.specs.Model.{Model, machineCount}
@@ -80,17 +80,15 @@ module _ (m : Model) (goal : List ℕ) where
       pub goal-bad : i < length goal → refused 14 i ≡ reply
       unfolding goalFaults
       goal-bad h =
-          let some : any bad (upTo (length goal)) ≡ true =
-          true-of-not-false (λ f. omega (arith, find-none bad (upTo (length goal)) (length goal) f)) in
-          let here : find bad (upTo (length goal)) 0 ≡ i =
-          find-upTo-is bad 0 i h (ap bad first ∙ find-holds bad (upTo (length goal)) (length goal) some)
-          (λ j l. find-upTo-before bad (length goal) (length goal) some j (omega arith)) in
           let fits = le-ltb (machineCount m) (length goal) (omega arith) in
-          sym (unless-later _ _ _ fits ∙ unless-first _ _ _ some ∙ ap (refused 14) here)
+          sym
+          (unless-later _ _ _ fits
+          ∙ unless-first _ _ _ (first-some bad first h)
+          ∙ ap (refused 14) (first-place bad first h))
 
       pub goal-good : length goal ≤ i → given tt ≡ reply
       unfolding goalFaults
       goal-good h =
-          let none : any bad (upTo (length goal)) ≡ false =
-          false-of-not-true (λ t. omega (arith, find-upTo-below bad (length goal) (length goal) t)) in
-          sym (unless-clear _ _ (le-ltb (machineCount m) (length goal) (omega arith), (none, tt)))
+          sym
+          (unless-clear _ _
+          (le-ltb (machineCount m) (length goal) (omega arith), (first-missing bad first h, tt)))

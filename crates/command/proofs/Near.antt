@@ -29,20 +29,21 @@ use Rattle.command.specs.Next.{Next, holdsOutside, prepareBy, followBy, 
 use Rattle.command.specs.Apply.{applyReply}
 use Rattle.command.proofs.Refusals.{causesOf}
 
-abbrev Near : {A : Type 0} → Reply A → Type 0
+-- a refusal's place is near
+abbrev pub Near : {A : Type 0} → Reply A → Type 0
 Near (given a) = Unit {0}
 Near (refused number place) = place ≤ 6196
 
-abbrev NearFault : Fault → Type 0
+abbrev pub NearFault : Fault → Type 0
 NearFault f = f .place ≤ 6196
 
 module _ {A : Type 0} (r : Reply A) where
-  none-near : Near r → Near (unless [] r)
+  pub none-near : Near r → Near (unless [] r)
   unfolding unless
   none-near h = h
 
   -- a cause that is near, before others that count only where it does not apply
-  first-near : (f : Fault) (fs : List Fault) → NearFault f → (Silent f → Near (unless fs r)) → Near (unless (f ∷ fs) r)
+  pub first-near : (f : Fault) (fs : List Fault) → NearFault f → (Silent f → Near (unless fs r)) → Near (unless (f ∷ fs) r)
   unfolding unless
   first-near f fs h later = by-cases (f .applies) (λ t. rw t h) (λ n. rw n (later n))
 
@@ -52,7 +53,7 @@ module _ {A : Type 0} (r : Reply A) where
   each-near (f ∷ fs) gs h later = first-near f (fs ++ gs) (h .0) (λ n. each-near fs gs (h .1) later)
 
 -- the first of the numbers below n that, or 0
-find-inside : (p : ℕ → Bool) (n : ℕ) → find p (upTo n) 0 ≤ n
+pub find-inside : (p : ℕ → Bool) (n : ℕ) → find p (upTo n) 0 ≤ n
 find-inside p n =
     by-cases (any p (upTo n))
     (λ t. omega (arith, find-upTo-below p n 0 t))

@@ -6,7 +6,7 @@ use mathlib.Core.List.{List, _++_}
 use native.Mathlib.Omega.{arith}
 use lib.ListN.{length, take, drop, take-append-drop}
 use lib.Seq.{length-take-le, take-at}
-use Rattle.common.specs.Reply.{Reply, given, refused, andThen}
+use Rattle.common.specs.Reply.{Reply, given, refused, andThen, outputAfter}
 use Rattle.common.proofs.Reply.{andThen-given, given-not-refused}
 use Rattle.sheet.specs.declared.refusal.Cause.{Cause}
 use Rattle.sheet.specs.Refusal.{numberOf}
@@ -26,7 +26,7 @@ use Rattle.plan.proofs.Planned.{planned}
 use Rattle.plan.proofs.Planning.{plan-accepted}
 use Rattle.plan.proofs.RecordTests.{bound-at}
 use Rattle.command.specs.Walk.{boundWritten}
-use Rattle.command.specs.Walking.{Started, started, planFront, frontAfter, startReply}
+use Rattle.command.specs.Walking.{Started, started, planFront, startReply}
 use Rattle.command.proofs.Turns.{length-most}
 
 -- The lent part
@@ -89,7 +89,7 @@ told-refused (refused number place) e = cc
 -- what is said, and what stands in the buffer and in the scratch afterwards, for a reply
 abbrev Begun : List ℕ → List ℕ → List ℕ → Reply (List ℕ) → Reply Started → List ℕ → List ℕ → Type 0
 Begun sheet buffer scratch reply says after left =
-    (says ≡ startReply sheet reply) × ((after ≡ frontAfter reply buffer) × (left ≡ scratchAfter reply scratch))
+    (says ≡ startReply sheet reply) × ((after ≡ outputAfter reply buffer) × (left ≡ scratchAfter reply scratch))
 
 module _ (sheet buffer scratch : List ℕ) (bytes n : ℕ) (e : n ≡ min bytes (length buffer)) where
   abbrev reply : Reply (List ℕ)

@@ -75,7 +75,7 @@ goal-passes m goal = (
 )
 
 -- a cause that stands at the first wrong of n machines
-first-wrong-refuses : {A : Type 0} (number : ℕ) (p : ℕ → Bool) {Right : ℕ → Type 0} (n : ℕ) (rest : List Fault) (r : Reply A)
+pub first-wrong-refuses : {A : Type 0} (number : ℕ) (p : ℕ → Bool) {Right : ℕ → Type 0} (n : ℕ) (rest : List Fault) (r : Reply A)
     → ((i : ℕ) → (p i ≡ false) ↔ Right i) → {i : ℕ} → FirstWrong Right n i
     → unless (fault number (find p (upTo n) 0) (any p (upTo n)) ∷ rest) r ≡ refused number i
 first-wrong-refuses number p n rest r exactly {i} first =
@@ -98,11 +98,11 @@ module _ {A : Type 0} (m : Model) (state : List ℕ) (rest : List Fault) (r : Re
 
 -- 14, with other causes behind it
 module _ {A : Type 0} (m : Model) (goal : List ℕ) (rest : List Fault) (r : Reply A) where
-  too-long : machineCount m < length goal → unless (goalFaults m goal ++ rest) r ≡ refused 14 255
+  pub too-long : machineCount m < length goal → unless (goalFaults m goal ++ rest) r ≡ refused 14 255
   unfolding goalFaults
   too-long l = unless-first _ _ r (lt-ltb _ _ l)
 
-  wrong-byte : {i : ℕ} → length goal ≤ machineCount m → FirstWrong (Sensible m goal) (length goal) i
+  pub wrong-byte : {i : ℕ} → length goal ≤ machineCount m → FirstWrong (Sensible m goal) (length goal) i
       → unless (goalFaults m goal ++ rest) r ≡ refused 14 i
   unfolding goalFaults
   wrong-byte l first =

@@ -4,10 +4,7 @@ use mathlib.Core.Path.{_≡_}
 use mathlib.Core.Logic.{_↔_}
 use mathlib.Core.List.{List, _∷_, _++_}
 use mathlib.Core.Bool.{Bool, true}
-use lib.ListN.{length}
-use Rattle.common.specs.Bits.{bit}
 use Rattle.common.specs.Reply.{given, clear}
-use Rattle.sheet.specs.Record.{byte}
 use Rattle.sheet.specs.Model.{Model, machineCount, moveCount, moveAt}
 use Rattle.sheet.specs.Parse.{Parsed, parse}
 use Rattle.plan.specs.Groups.{groupOf, groupCount}
@@ -15,18 +12,15 @@ use Rattle.plan.specs.Laws.{PlanLaws}
 use Rattle.plan.specs.Planning.{planReply}
 use Rattle.plan.specs.Reading.{groupsIn, boundIn}
 use Rattle.command.specs.State.{modeOf, withMode}
+use Rattle.command.specs.Meaning.{MachineMeets}
 use Rattle.command.specs.Next.{Next, done, command, goalRefusals}
 use Rattle.command.specs.Apply.{Answers, applyReply}
 use Rattle.command.specs.Run.{Lent, askReply, Call, ask, apply, some, Situation, begins, afterAll, Run}
 
 module _ (lent : Lent) (m : Model) where
-  -- "as wished": machine i is in a mode that its byte of the goal holds; past the goal's end any mode is
-  abbrev pub MachineAsWished : List ℕ → ℕ → Type 0
-  MachineAsWished state i = i < length (lent .goal) → bit (byte (lent .goal) i) (modeOf state i) ≡ true
-
   -- every machine of group k is as wished
   abbrev pub AsWished : List ℕ → ℕ → Type 0
-  AsWished state k = (i : ℕ) → i < machineCount m → groupOf (groupsIn m (lent .plan)) i ≡ k → MachineAsWished state i
+  AsWished state k = (i : ℕ) → i < machineCount m → groupOf (groupsIn m (lent .plan)) i ≡ k → MachineMeets (lent .goal) state i
 
   -- all groups from g upward are as wished
   abbrev pub AsWishedFrom : List ℕ → ℕ → Type 0

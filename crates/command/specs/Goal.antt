@@ -23,9 +23,13 @@ anyMode = 255
 abbrev pub allows : Masks → ℕ → ℕ → Bool
 allows masks i mode = bit (getD masks i anyMode) mode
 
--- the caller's goal; what it does not reach is free
+-- what the caller's goal allows machine i: its byte, and past the goal's end any mode
+abbrev pub wished : List ℕ → ℕ → ℕ
+wished goal i = cond (ltb i (length goal)) (byte goal i) anyMode
+
+-- the caller's goal
 unfoldable pub goalMasks : Model → List ℕ → Masks
-goalMasks m goal = map (λ i. cond (ltb i (length goal)) (byte goal i) anyMode) (upTo (machineCount m))
+goalMasks m goal = map (wished goal) (upTo (machineCount m))
 
 -- what a move of group k needs of other groups, as a goal; all other machines are free
 unfoldable pub guardMasks : Model → Grouping → ℕ → Move → Masks

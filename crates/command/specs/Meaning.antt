@@ -19,6 +19,10 @@ use Rattle.command.specs.State.{modeOf, stateFaults}
 use Rattle.command.specs.Goal.{Masks, goalMasks, guardMasks, met, allowed}
 use Rattle.command.specs.Attainable.{present, liveGroup}
 
+-- Machine i is as wished: in a mode that its byte of the goal holds; past the goal's end any mode is.
+abbrev pub MachineMeets : List ℕ → List ℕ → ℕ → Type 0
+MachineMeets goal state i = i < length goal → bit (byte goal i) (modeOf state i) ≡ true
+
 -- The group modes of a state that passes 13, under any plan in shape.
 pub record StateRight (m : Model) (plan state : List ℕ) : Type 0 where
   pub below : (k : ℕ) → present m plan state k < size m (groupsIn m plan) k

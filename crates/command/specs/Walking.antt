@@ -1,8 +1,8 @@
 -- The walk as the code makes it: planning into the front of a buffer, and one turn of obeying.
 use Prim.Native.Nat.{ℕ, suc, _+_, _≤_, min}
 use mathlib.Core.Path.{_≡_}
-use mathlib.Core.List.{List, [], _∷_, _++_}
-use lib.ListN.{length, drop}
+use mathlib.Core.List.{List, [], _∷_}
+use lib.ListN.{length}
 use Rattle.common.specs.Reply.{Reply, given, refused, andThen}
 use Rattle.sheet.specs.Refusal.{numberOf}
 use Rattle.sheet.specs.Parse.{parse}
@@ -24,11 +24,6 @@ started bytes bound = record { bytes = bytes; bound = bound }
 -- planning into as much of a buffer as the plan needs, or all of it
 unfoldable pub planFront : List ℕ → ℕ → ℕ → Reply (List ℕ)
 planFront sheet buffer scratch = andThen (lengthReply sheet) (λ n. planReply sheet (min n buffer) scratch)
-
--- what that leaves in the buffer
-abbrev pub frontAfter : Reply (List ℕ) → List ℕ → List ℕ
-frontAfter (given plan) buffer = plan ++ drop (length plan) buffer
-frontAfter (refused number place) buffer = buffer
 
 abbrev pub startReply : List ℕ → Reply (List ℕ) → Reply Started
 startReply sheet (given plan) = given (started (length plan) (boundWritten (parse sheet) plan))

@@ -11,11 +11,11 @@ use sheet::refusal::Cause;
 ghost use mathlib.Core.Path.{_≡_};
 ghost use lib.ListN.{length};
 ghost use Prim.Native.Nat.{min};
-ghost use Rattle.common.specs.Reply.{given};
+ghost use Rattle.common.specs.Reply.{given, outputAfter};
 ghost use Rattle.plan.specs.Planning.{lengthReply, planReply, scratchAfter};
 ghost use Rattle.command.specs.Next.{nextReply};
 ghost use Rattle.command.specs.Advised.{adviceSays};
-ghost use Rattle.command.specs.Walking.{planFront, frontAfter, startReply, startSays, obeyed};
+ghost use Rattle.command.specs.Walking.{planFront, startReply, startSays, obeyed};
 
 // How long the plan is and its bound, or the refusal.
 pub enum Start {
@@ -39,7 +39,7 @@ fn begin_with(file: &[u8], bytes: usize, buffer: &mut [u8], scratch: &mut [u8]) 
     requires { ⌜ lengthReply (now file) ≡ given bytes ⌝ }
     ensures reply { λ r. ⌜ startSays r ≡ startReply (now (file .entry))
         (planReply (now (file .entry)) (min bytes (length (now (buffer .entry)))) (length (now (scratch .entry)))) ⌝ }
-    ensures written { λ _. ⌜ now (buffer .exit) ≡ frontAfter
+    ensures written { λ _. ⌜ now (buffer .exit) ≡ outputAfter
         (planReply (now (file .entry)) (min bytes (length (now (buffer .entry)))) (length (now (scratch .entry))))
         (now (buffer .entry)) ⌝ }
     ensures left { λ _. ⌜ now (scratch .exit) ≡ scratchAfter
@@ -58,7 +58,7 @@ fn begin_with(file: &[u8], bytes: usize, buffer: &mut [u8], scratch: &mut [u8]) 
 pub fn begin(file: &[u8], buffer: &mut [u8], scratch: &mut [u8]) -> Start
     ensures reply { λ r. ⌜ startSays r ≡ startReply (now (file .entry))
         (planFront (now (file .entry)) (length (now (buffer .entry))) (length (now (scratch .entry)))) ⌝ }
-    ensures written { λ _. ⌜ now (buffer .exit) ≡ frontAfter
+    ensures written { λ _. ⌜ now (buffer .exit) ≡ outputAfter
         (planFront (now (file .entry)) (length (now (buffer .entry))) (length (now (scratch .entry)))) (now (buffer .entry)) ⌝ }
     ensures left { λ _. ⌜ now (scratch .exit) ≡ scratchAfter
         (planFront (now (file .entry)) (length (now (buffer .entry))) (length (now (scratch .entry)))) (now (scratch .entry)) ⌝ }

@@ -8,7 +8,7 @@ use native.Mathlib.Nat.{not-suc-le-zero}
 use native.Mathlib.Omega.{arith}
 use lib.ListN.{length, getD, List·getD-eq-default}
 use Rattle.common.specs.Lists.{upTo, any, filter, position, find}
-use Rattle.common.proofs.Bools.{by-cases, true-false, false-of-not-true, or-false-left, or-false-right}
+use Rattle.common.proofs.Bools.{by-cases, true-false, true-of-not-false, false-of-not-true, or-false-left, or-false-right}
 use Rattle.common.proofs.Lists.{any-intro, any-some, any-fails}
 use Rattle.common.proofs.Members.{mem-getD, mem-index, upTo-mem, upTo-below, length-upTo, getD-upTo}
 
@@ -128,6 +128,20 @@ module _ (p : ℕ → Bool) {n : ℕ} (d : ℕ) where
 
   pub find-upTo-none : ((j : ℕ) → j < n → p j ≡ false) → find p (upTo n) d ≡ d
   find-upTo-none h = find-none p (upTo n) d (any-fails p (upTo n) (λ j m. h j (upTo-below n m)))
+
+-- the first number below n that, by a search that answers n where there is none
+module _ (p : ℕ → Bool) {n i : ℕ} (first : i ≡ find p (upTo n) n) where
+  pub first-some : i < n → any p (upTo n) ≡ true
+  first-some h = true-of-not-false (λ f. omega (arith, find-none p (upTo n) n f))
+
+  pub first-place : i < n → find p (upTo n) 0 ≡ i
+  first-place h =
+      let some = first-some h in
+      find-upTo-is p 0 i h (ap p first ∙ find-holds p (upTo n) n some)
+      (λ j l. find-upTo-before p n n some j (omega arith))
+
+  pub first-missing : n ≤ i → any p (upTo n) ≡ false
+  first-missing h = false-of-not-true (λ t. omega (arith, find-upTo-below p n n t))
 
 -- the first of those that
 pub find-filter : {A : Type 0} (p q : A → Bool) (xs : List A) (d : A)

@@ -1,7 +1,8 @@
 -- Replies and refusals. A refusal is one number of document 01's table and one place.
 use Prim.Native.Nat.{ℕ}
-use mathlib.Core.List.{List, [], _∷_}
+use mathlib.Core.List.{List, [], _∷_, _++_}
 use mathlib.Core.Bool.{Bool, cond, not}
+use lib.ListN.{length, drop}
 use Rattle.common.specs.Lists.{all}
 
 pub data Reply (A : Type 0) : Type 0 where
@@ -33,3 +34,13 @@ module _ {A : Type 0} where
   unfoldable pub andThen : {B : Type 0} → Reply A → (A → Reply B) → Reply B
   andThen (given a) f = f a
   andThen (refused number place) f = refused number place
+
+-- a call that writes a list into a longer buffer: it replies the list's length
+abbrev pub lengthOf : Reply (List ℕ) → Reply ℕ
+lengthOf (given out) = given (length out)
+lengthOf (refused number place) = refused number place
+
+-- and leaves the list with what stood behind it, or all as it was
+abbrev pub outputAfter : Reply (List ℕ) → List ℕ → List ℕ
+outputAfter (given out) before = out ++ drop (length out) before
+outputAfter (refused number place) before = before

@@ -5,7 +5,8 @@ use mathlib.Core.Path.{_≡_, refl, sym, ap, subst, _∙_}
 use mathlib.Core.List.{List}
 use mathlib.Core.Bool.{Bool, cond}
 use native.Mathlib.Omega.{arith}
-use Rattle.common.specs.Reply.{Reply, given, refused}
+use lib.ListN.{length}
+use Rattle.common.specs.Reply.{Reply, given, refused, lengthOf}
 use Rattle.common.proofs.Reply.{given-not-refused}
 use Rattle.sheet.specs.declared.index.Sheet.{Sheet}
 use Rattle.sheet.specs.declared.index.Reading.{Reading}
@@ -21,7 +22,7 @@ use Rattle.sheet.proofs.Indexed.{indexes-machines, indexes-moves, accepted-inde
 use Rattle.sheet.proofs.Parsed.{parse-valid}
 use Rattle.sheet.proofs.Place.{refusal-near}
 use Rattle.plan.specs.declared.measure.Length.{Length}
-use Rattle.plan.specs.declared.measure.Length.the-variants.{Bytes, Refused}
+use Rattle.plan.specs.declared.measure.Length.the-variants.{Refused}
 use Rattle.plan.specs.declared.making.Planned.{Planned}
 use Rattle.plan.specs.declared.making.Planned.the-variants.{Written, Refused as Unplanned}
 use Rattle.plan.specs.Planning.{lengthReply, planReply}
@@ -36,6 +37,8 @@ use Rattle.command.specs.Next.{nextReply}
 use Rattle.command.specs.Apply.{Applied, changed, applyReply}
 use Rattle.command.specs.Advised.{adviceSays, changeSays, changeReply}
 use Rattle.command.proofs.Near.{next-near, apply-near}
+use Rattle.joining.specs.Join.{joinReply}
+use Rattle.joining.proofs.Near.{join-near}
 use Rattle.panel.specs.Words.{wordOf, sheetReply, doneReply, commandReply, changedReply}
 
 -- a reply that is told in part: a refusal is told whole
@@ -79,20 +82,23 @@ module _ (s : List ℕ) (r : Reading) (e : readingOf r ≡ indexReply (parse s))
     pub refused-near : place ≤ 6196
     refused-near = refusal-near s (refused-parse s r e a)
 
-module _ (s : List ℕ) (r : Length) (e : measuredOf r ≡ lengthReply s) where
-  -- the word of a length is the length
-  pub length-word : {bytes : ℕ} → r ≡ Bytes bytes → bytes ≡ wordOf (lengthReply s)
-  length-word a = ap wordOf (ap measuredOf (sym a) ∙ e)
+-- a reply that is a length or a refusal
+module _ (r : Length) (cause : Cause) (place : ℕ) (a : r ≡ Refused cause place) where
+  pub unmeasured-word : 4294967296 * numberOf cause + place ≡ wordOf (measuredOf r)
+  unmeasured-word = ap (λ q. wordOf (measuredOf q)) (sym a)
 
-  module _ (cause : Cause) (place : ℕ) (a : r ≡ Refused cause place) where
-    told : refused (numberOf cause) place ≡ lengthReply s
-    told = ap measuredOf (sym a) ∙ e
+  pub unmeasured-near : ((number place : ℕ) → measuredOf r ≡ refused number place → place ≤ 6196) → place ≤ 6196
+  unmeasured-near near = near _ _ (ap measuredOf a)
 
-    pub unmeasured-word : 4294967296 * numberOf cause + place ≡ wordOf (lengthReply s)
-    unmeasured-word = ap wordOf told
+-- its place is near, be it of the plan's length or of joining
+pub measured-near : (s : List ℕ) (r : Length) → measuredOf r ≡ lengthReply s
+    → (number place : ℕ) → measuredOf r ≡ refused number place → place ≤ 6196
+measured-near s r e number place a = length-near s (sym e ∙ a)
 
-    pub unmeasured-near : place ≤ 6196
-    unmeasured-near = length-near s (sym told)
+pub joined-near : (s lent : List ℕ) (room : ℕ) (r : Length) → measuredOf r ≡ lengthOf (joinReply s lent room)
+    → (number place : ℕ) → measuredOf r ≡ refused number place → place ≤ 6196
+joined-near s lent room r e number place a =
+    join-near s lent room (refused-told lengthOf length (λ out. refl) (λ n p. refl) (joinReply s lent room) (sym a ∙ e))
 
 module _ (s : List ℕ) (buffer scratch : ℕ) (r : Planned) (e : plannedOf r ≡ toldOf (planReply s buffer scratch)) where
   -- the word of a plan that is written is 0

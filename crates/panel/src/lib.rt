@@ -7,13 +7,16 @@ use sheet::index::Machine;
 use sheet::refusal::Cause;
 use sheet::refusal::Verdict;
 ghost use mathlib.Core.Path.{_≡_};
-ghost use Prim.Native.Nat.{_+_, _*_, _≤_};
+ghost use Prim.Native.Nat.{ℕ, _+_, _*_, _≤_};
+ghost use Rattle.common.specs.Reply.{refused, lengthOf, outputAfter};
 ghost use Rattle.sheet.specs.Refusal.{numberOf};
 ghost use Rattle.sheet.specs.Parse.{parse};
 ghost use lib.ListN.{length};
 ghost use Rattle.plan.specs.Planning.{lengthReply, planReply, bufferAfter, scratchAfter};
+ghost use Rattle.plan.specs.Measured.{measuredOf};
 ghost use Rattle.command.specs.Next.{nextReply};
 ghost use Rattle.command.specs.Apply.{applyReply, stateAfter};
+ghost use Rattle.joining.specs.Join.{joinReply};
 ghost use Rattle.panel.specs.Words.{wordOf, sheetReply, doneReply, commandReply, changedReply};
 
 // The word of a refusal.
@@ -22,6 +25,17 @@ fn refusal(cause: Cause, place: usize) -> u64
     ensures { λ r. ⌜ r ≡ 4294967296 * numberOf cause + place ⌝ }
 {
     4294967296 * (sheet::refusal::number(cause) as u64) + place as u64
+}
+
+// The word of a number of bytes, or of the refusal.
+fn length_word(length: Length) -> u64
+    requires { ⌜ ((number place : ℕ) → measuredOf length ≡ refused number place → place ≤ 6196) ⌝ }
+    ensures { λ r. ⌜ r ≡ wordOf (measuredOf length) ⌝ }
+{
+    match length {
+        Length::Bytes(bytes) => bytes as u64,
+        Length::Refused(cause, place) => refusal(cause, place),
+    }
 }
 
 // Checks a sheet: 256 × moves + machines, or the refusal.
@@ -42,11 +56,7 @@ pub extern "C" fn duty_sheet(file: &[u8]) -> u64
 pub extern "C" fn duty_plan_length(file: &[u8]) -> u64
     ensures { λ r. ⌜ r ≡ wordOf (lengthReply (now (file .entry))) ⌝ }
 {
-    let length = plan::measure::plan_length(file);
-    match length {
-        Length::Bytes(bytes) => bytes as u64,
-        Length::Refused(cause, place) => refusal(cause, place),
-    }
+    length_word(plan::measure::plan_length(file))
 }
 
 // Writes the plan of a sheet into a buffer of its length, and zeros into the scratch: 0, or the refusal.
@@ -95,4 +105,15 @@ pub extern "C" fn duty_apply(file: &[u8], state: &mut [u8], machine: u8, byte: u
         Change::Unchanged => 0,
         Change::TurnedDown(cause, place) => refusal(cause, place),
     }
+}
+
+// Joins wishes, each after a byte with its length, and writes the joined one into a buffer: its length, or the refusal.
+#[no_mangle]
+pub extern "C" fn duty_join(file: &[u8], wishes: &[u8], out: &mut [u8]) -> u64
+    ensures reply { λ r. ⌜ r ≡ wordOf (lengthOf
+        (joinReply (now (file .entry)) (now (wishes .entry)) (length (now (out .entry))))) ⌝ }
+    ensures written { λ _. ⌜ now (out .exit)
+        ≡ outputAfter (joinReply (now (file .entry)) (now (wishes .entry)) (length (now (out .entry)))) (now (out .entry)) ⌝ }
+{
+    length_word(joining::joining::join(file, wishes, out))
 }

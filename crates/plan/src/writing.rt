@@ -26,14 +26,14 @@ pub fn put_header(plan: &mut [u8], at: usize, len: usize, kind: u8)
     put_two(plan, at + 2, wide(kind));
 }
 
-// Writes the group numbers at a place.
-pub fn put_numbers(plan: &mut [u8], at: usize, numbers: &[u8])
-    requires { ⌜ at + length (now numbers) ≤ length (now plan) ⌝ }
-    ensures { λ _. ⌜ now (plan .exit) ≡ written at (now (numbers .entry)) (now (plan .entry)) ⌝ }
+// Writes bytes at a place.
+pub fn put_bytes(buffer: &mut [u8], at: usize, bytes: &[u8])
+    requires { ⌜ at + length (now bytes) ≤ length (now buffer) ⌝ }
+    ensures { λ _. ⌜ now (buffer .exit) ≡ written at (now (bytes .entry)) (now (buffer .entry)) ⌝ }
 {
     let mut i: usize = 0;
-    while i < numbers.len() {
-        plan[at + i] = numbers[i];
+    while i < bytes.len() {
+        buffer[at + i] = bytes[i];
         i += 1;
     }
 }
@@ -53,7 +53,7 @@ pub fn put_start(plan: &mut [u8], numbers: &[u8])
     ensures { λ _. ⌜ now (plan .exit) ≡ written 0 (recordOf 16 (now (numbers .entry))) (now (plan .entry)) ⌝ }
 {
     put_header(plan, 0, numbers.len(), 16);
-    put_numbers(plan, 4, numbers);
+    put_bytes(plan, 4, numbers);
 }
 
 // Writes the last two records of a plan, the bound and the end, at a place.

@@ -20,6 +20,7 @@ use Rattle.sheet.specs.declared.refusal.Cause.the-variants.{
   NotLive,
   NoRoute,
   DeadEnd,
+  NoSharedMode,
 }
 
 abbrev pub numberOf : Cause → ℕ
@@ -41,3 +42,4 @@ numberOf BadPlan = 15
 numberOf NotLive = 16
 numberOf NoRoute = 17
 numberOf DeadEnd = 18
+numberOf NoSharedMode = 19

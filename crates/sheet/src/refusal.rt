@@ -24,6 +24,8 @@ pub enum Cause {
     NotLive,
     NoRoute,
     DeadEnd,
+    // 19: joining goals.
+    NoSharedMode,
 }
 
 // What a test of lent bytes finds.
@@ -56,5 +58,6 @@ pub fn number(cause: Cause) -> u8
         Cause::NotLive => 16,
         Cause::NoRoute => 17,
         Cause::DeadEnd => 18,
+        Cause::NoSharedMode => 19,
     }
 }

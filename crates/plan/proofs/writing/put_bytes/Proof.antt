@@ -2,26 +2,26 @@ use Prim.Native.Nat.{_-_}
 use borrow.Author.Needs.{needs}
 use lib.ListN.{length}
 use Rattle.plan.proofs.WritingLoops.{CopiedTo, copied-to-none, copied-to-next, copied-to-end}
-use Rattle.plan.proofs.writing.put_numbers.Statement.{statement}
-use Rattle.plan.proofs.writing.put_numbers.Tie as tie
+use Rattle.plan.proofs.writing.put_bytes.Statement.{statement}
+use Rattle.plan.proofs.writing.put_bytes.Tie as tie
 
 abbrev Inv-loop : tie.InvT-loop
-Inv-loop plan₀ at numbers i₀ plan i = CopiedTo plan₀ at numbers i plan
+Inv-loop buffer₀ at bytes i₀ buffer i = CopiedTo buffer₀ at bytes i buffer
 
 abbrev μ-loop : tie.MeasureT-loop
-μ-loop plan₀ at numbers i₀ plan i = length numbers - i
+μ-loop buffer₀ at bytes i₀ buffer i = length bytes - i
 
 loop-holds : tie.Need-loop-holds Inv-loop μ-loop
 loop-holds c = search copied-to-none
 
-shared-slice-read-plan : tie.Need-shared-slice-read-plan Inv-loop μ-loop
-shared-slice-read-plan c = search needs
+shared-slice-read-buffer : tie.Need-shared-slice-read-buffer Inv-loop μ-loop
+shared-slice-read-buffer c = search needs
 
-add-plan : tie.Need-add-plan Inv-loop μ-loop
-add-plan c = search needs
+add-buffer : tie.Need-add-buffer Inv-loop μ-loop
+add-buffer c = search needs
 
-slice-write-plan : tie.Need-slice-write-plan Inv-loop μ-loop
-slice-write-plan c = search needs
+slice-write-buffer : tie.Need-slice-write-buffer Inv-loop μ-loop
+slice-write-buffer c = search needs
 
 add-i : tie.Need-add-i Inv-loop μ-loop
 add-i c = search needs
@@ -38,16 +38,16 @@ same-length c = c .before .loop .inv .size
 returns : tie.Need-returns Inv-loop μ-loop
 returns c = search copied-to-end
 
-pub put-numbers-spec : {M : Type 1} → statement M
-put-numbers-spec =
+pub put-bytes-spec : {M : Type 1} → statement M
+put-bytes-spec =
     tie.close
     (tie.spec
     Inv-loop
     μ-loop
     loop-holds
-    shared-slice-read-plan
-    add-plan
-    slice-write-plan
+    shared-slice-read-buffer
+    add-buffer
+    slice-write-buffer
     add-i
     loop-less
     loop-again

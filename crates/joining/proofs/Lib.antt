@@ -1,0 +1,14 @@
+pub mod BitSums
+pub mod JoinReply
+pub mod LentLoops
+pub mod Meeting
+pub mod NarrowLoop
+pub mod Narrowing
+pub mod Near
+pub mod SharedLoop
+pub mod Sharing
+pub mod Slices
+pub mod Splitting
+pub mod Told
+pub mod WithoutLoop
+pub mod Written

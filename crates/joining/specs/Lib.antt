@@ -1,0 +1,4 @@
+pub mod Cooks
+pub mod Join
+pub mod Joined
+pub mod Lent
