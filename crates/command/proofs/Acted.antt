@@ -4,7 +4,7 @@ use Prim.Native.Nat.{ℕ, _-_, _<_}
 use mathlib.Core.Path.{_≡_, sym, ap, _∙_}
 use mathlib.Core.Logic.{⊎-elim}
 use mathlib.Core.List.{List}
-use mathlib.Core.Bool.{Bool, true, false}
+use mathlib.Core.Bool.{true, false}
 use native.Mathlib.Omega.{arith}
 use borrow.Author.Tests.{lt-ltb}
 use lib.Dec.{ltb}
@@ -24,8 +24,7 @@ use Rattle.sheet.proofs.Indexed.{indexes-valid, indexes-moves}
 use Rattle.plan.specs.Outline.{verdictSays}
 use Rattle.plan.proofs.MoveTurns.{turn-move}
 use Rattle.command.specs.State.{withMode, stateFaults}
-use Rattle.command.specs.Apply.{Answers, Applied, actingMove, stateBy, appliedBy, applyReply, stateAfter}
-use Rattle.command.specs.Advised.{changeReply}
+use Rattle.command.specs.Apply.{Answers, Applied, Effect, actingMove, stateBy, appliedBy, effectReply, applyReply, stateAfter}
 use Rattle.command.proofs.Shape.{sound-state}
 use Rattle.command.proofs.Applying.{found-or-none, answer-moves, none-moves, apply-reply}
 use Rattle.command.proofs.Verdicts.{refused-unless}
@@ -33,8 +32,13 @@ use Rattle.command.proofs.Verdicts.{refused-unless}
 -- `act`: v is the move that is found
 module _ {file : List ℕ} {x : Sheet} {m : Model} (i : Indexes file x m) (state : List ℕ) (machine command : ℕ) {v : ℕ}
     (e : v ≡ actingMove m state machine command) where
-  pub acted-none : v ≡ 255 → given false ≡ changeReply (given (appliedBy m state machine command))
-  acted-none z = ap given (sym (ap (λ n. ltb n 255) (sym e ∙ z)))
+  -- what is told of a move, 255 for none
+  abbrev told : ℕ → Reply Effect
+  told n = given (record { changed = ltb n 255; move = n })
+
+  pub acted-none : v ≡ 255
+      → given (record { changed = false; move = 255 }) ≡ effectReply (given (appliedBy m state machine command))
+  acted-none z = ap told (sym z ∙ e)
 
   pub left-none : v ≡ 255 → state ≡ stateBy m state machine command
   left-none z = sym (none-moves m state machine command (sym e ∙ z))
@@ -51,11 +55,11 @@ module _ {file : List ℕ} {x : Sheet} {m : Model} (i : Indexes file x m) (state
         rw (sound-state m state h .long, ← acted-answers .its-machine)
         (indexes-valid i .moves-valid v (acted-answers .there) .present)
 
-    pub acted-some : given true ≡ changeReply (given (appliedBy m state machine command))
+    pub acted-some :
+        given (record { changed = true; move = v }) ≡ effectReply (given (appliedBy m state machine command))
     acted-some =
-        let below : actingMove m state machine command < 255 =
-        omega (arith, acted-answers .there, indexes-valid i .few-moves) in
-        ap given (sym (lt-ltb _ 255 below))
+        let below = lt-ltb v 255 (omega (arith, acted-answers .there, indexes-valid i .few-moves)) in
+        ap (λ b. given (record { changed = b; move = v })) (sym below) ∙ ap told e
 
     pub left-some : {w : ℕ} {body after : List ℕ} → w ≡ v → body ≡ bodyAt file (getD (x .bodies) w 0 - 4)
         → after ≡ withMode state machine (byte body 2) → after ≡ stateBy m state machine command
@@ -75,9 +79,9 @@ module _ (m : Model) (state : List ℕ) (machine command : ℕ) where
     accepted-is : tested ≡ given (appliedBy m state machine command)
     accepted-is = unless-clear _ _ (clear-each _ passes)
 
-    pub accepted-says : {b : Reply Bool} → b ≡ changeReply (given (appliedBy m state machine command))
-        → b ≡ changeReply tested
-    accepted-says h = h ∙ sym (ap changeReply accepted-is)
+    pub accepted-says : {b : Reply Effect} → b ≡ effectReply (given (appliedBy m state machine command))
+        → b ≡ effectReply tested
+    accepted-says h = h ∙ sym (ap effectReply accepted-is)
 
     pub accepted-leaves : {after : List ℕ} → after ≡ stateBy m state machine command → after ≡ stateAfter tested state
     accepted-leaves h = h ∙ sym (ap (λ y. stateAfter y state) accepted-is)
@@ -87,8 +91,8 @@ module _ (m : Model) (state : List ℕ) (machine command : ℕ) where
     refused-is : tested ≡ refused (numberOf cause) place
     refused-is = refused-unless _ e a _
 
-    pub refused-says : refused (numberOf cause) place ≡ changeReply tested
-    refused-says = sym (ap changeReply refused-is)
+    pub refused-says : refused (numberOf cause) place ≡ effectReply tested
+    refused-says = sym (ap effectReply refused-is)
 
     pub refused-leaves : state ≡ stateAfter tested state
     refused-leaves = sym (ap (λ y. stateAfter y state) refused-is)

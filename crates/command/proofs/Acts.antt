@@ -56,6 +56,13 @@ module _ (m : Model) (state : List ℕ) (i c v : ℕ) where
       (eq-eqb _ _ (a .its-byte)))
       (all-intro _ (moveAt m v .guards) (a .its-needs))
 
+-- no two moves answer a command
+pub answers-same : (m : Model) → Valid m → (state : List ℕ) (i c : ℕ) {v w : ℕ} → Answers m state i c v
+    → Answers m state i c w → v ≡ w
+answers-same m valid state i c {v} {w} a b =
+    valid .moves-distinct v w (a .there) (b .there)
+    (a .its-machine ∙ sym (b .its-machine)) (a .its-from ∙ sym (b .its-from)) (a .its-byte ∙ sym (b .its-byte))
+
 -- a move that acts is the one that is found
 pub acting-only : (m : Model) → Valid m → (state : List ℕ) (i c v : ℕ) → v < moveCount m → acts m state i c v ≡ true
     → actingMove m state i c ≡ v
@@ -64,10 +71,8 @@ acting-only m valid state i c v h t =
     let moves = upTo (moveCount m) in
     let some : any (acts m state i c) moves ≡ true = any-intro (acts m state i c) (upTo-mem h) t in
     let here = upTo-below (moveCount m) (find-mem (acts m state i c) moves 255 some) in
-    let a = acts-answers m state i c _ here (find-holds (acts m state i c) moves 255 some) in
-    let b = acts-answers m state i c v h t in
-    valid .moves-distinct _ v here h
-    (a .its-machine ∙ sym (b .its-machine)) (a .its-from ∙ sym (b .its-from)) (a .its-byte ∙ sym (b .its-byte))
+    answers-same m valid state i c
+    (acts-answers m state i c _ here (find-holds (acts m state i c) moves 255 some)) (acts-answers m state i c v h t)
 
 module _ (m : Model) (valid : Valid m) (plan : List ℕ) (shaped : wellShaped m plan ≡ true) where
   abbrev own : Grouping

@@ -20,6 +20,7 @@ use Rattle.command.specs.Goal.{goalMasks}
 use Rattle.command.specs.Attainable.{attainFaults}
 use Rattle.command.specs.Covered.{Covered}
 use Rattle.command.specs.Next.{done, command, fulfil, goalRefusals}
+use Rattle.command.specs.Method.{entryMove, PicksFor}
 use Rattle.command.specs.Apply.{Answers, applyReply}
 use Rattle.command.specs.Run.{Lent, askReply, some, Situation, begins}
 use Rattle.command.specs.Arrival.{Reached, Asked, Moved}
@@ -30,13 +31,11 @@ use Rattle.command.proofs.Shape.{state-sound}
 use Rattle.command.proofs.Wished.{met-wished, wished-met}
 use Rattle.command.proofs.Sends
 use Rattle.command.proofs.Sends.{Sends}
-use Rattle.command.proofs.Asking.{refusals-parts, next-fulfils}
+use Rattle.command.proofs.Asking.{done-not-command, refusals-parts, next-fulfils}
+use Rattle.command.proofs.Targets.{goal-leaves}
+use Rattle.command.proofs.Picked.{picks-move}
 use Rattle.command.proofs.Kept
 use Rattle.command.proofs.Kept.{count, Pends, Kept, toCome-bounded}
-
--- two replies of next command
-done-not-command : {i c : ℕ} → given done ≡ given (command i c) → ⊥
-done-not-command e = let z : _≡_ {A = ℕ} 0 1 = cc in omega arith
 
 -- what a run stands on: a sheet that is read, a plan with the laws, a goal that passes 14
 pub record Ground (lent : Lent) (d : Parsed) (Usable : ℕ → Type 0) (longest cost : ℕ → ℕ) : Type 0 where
@@ -91,7 +90,14 @@ module _ {lent : Lent} {d : Parsed} {Usable : ℕ → Type 0} {longest cost : �
           _,
           _,
           next-is ∙ r .replies,
-          record { group = r .group; move = r .move; sent = r .sends; machine-is = refl; byte-is = refl },
+          record {
+            group = r .group;
+            move = r .move;
+            sent = r .sends;
+            asked = next-is ∙ r .replies;
+            machine-is = refl;
+            byte-is = refl;
+          },
         ))
         (Sends.done-or-commanded (ground .valid) (ground .laws .tables) (ground .laws .routes) (kept .sound) _ (le-refl _) _ (kept .covered))
 
@@ -106,6 +112,7 @@ module _ {lent : Lent} {d : Parsed} {Usable : ℕ → Type 0} {longest cost : �
           group = r .3 .group;
           move = r .3 .move;
           sent = r .3 .sent;
+          asked = e;
           machine-is = cc (r .3 .machine-is);
           byte-is = cc (r .3 .byte-is);
         })
@@ -153,6 +160,15 @@ module _ {lent : Lent} {d : Parsed} {Usable : ℕ → Type 0} {longest cost : �
         rw (p .machine-is, p .byte-is)
         (Kept.sent-applies (ground .valid) (ground .laws) kept (p .sent) (lent .sheet) d (ground .parsed) refl)
 
+    -- the entry by which it was given names its move
+    names-pending : {i c : ℕ} (p : Pends (d .model) lent Usable (s .state) i c)
+        → PicksFor (d .model) (lent .plan) (s .state) (lent .goal) (entryMove (p .move))
+    names-pending p =
+        picks-move (d .model) (lent .plan) (s .state) (ground .valid) (ground .laws .tables .shaped) _ _
+        (goal-leaves (d .model) (ground .valid) (lent .goal) (ground .fine)) (p .move)
+        (Kept.sent-answers (ground .valid) (ground .laws) kept (p .sent))
+        (sym next-is ∙ rw (← p .machine-is, ← p .byte-is) (p .asked))
+
     pub moved : (i c : ℕ) → s .pending ≡ some i c → Moved lent (d .model) s
     moved i c e =
         let p = kept .pends i c e in
@@ -162,7 +178,9 @@ module _ {lent : Lent} {d : Parsed} {Usable : ℕ → Type 0} {longest cost : �
           machine = i;
           byte = c;
           pends = e;
+          asked = p .asked;
           move = p .move;
+          named = names-pending p;
           present = here;
           its-own = sym (p .machine-is);
           applies = applies-pending p;

@@ -1,12 +1,12 @@
 -- A command acts by the move that answers it and by no other, and applying leaves the state that this move makes.
 -- Assumes nothing.
 use Prim.Native.Nat.{ℕ}
-use mathlib.Core.Path.{_≡_, sym, ap, _∙_}
+use mathlib.Core.Path.{_≡_, sym, ap, subst, _∙_}
 use mathlib.Core.Logic.{_⊎_, inl, inr, ⊎-elim, _↔_}
 use mathlib.Core.List.{List}
-use mathlib.Core.Bool.{true}
+use mathlib.Core.Bool.{true, false}
 use native.Mathlib.Omega.{arith}
-use borrow.Author.Tests.{ltb-true, lt-ltb, ne-eqb}
+use borrow.Author.Tests.{lt-ltb, ne-eqb}
 use lib.Dec.{ltb}
 use Rattle.common.specs.Lists.{upTo, any}
 use Rattle.common.specs.Reply.{given, clear, unless, andThen}
@@ -21,11 +21,11 @@ use Rattle.sheet.specs.Valid.{Valid}
 use Rattle.sheet.specs.Parse.{Parsed, parse}
 use Rattle.sheet.proofs.Parsed.{parse-valid}
 use Rattle.command.specs.State.{modeOf, withMode, stateFaults}
-use Rattle.command.specs.Apply.{Answers, Applied, acts, actingMove, stateBy, applyReply}
-use Rattle.command.specs.Applying.{ApplyRight, AppliesRight, StateLeft}
+use Rattle.command.specs.Apply.{Answers, Applied, Effect, acts, actingMove, stateBy, appliedBy, effectOf, effectReply, applyReply}
+use Rattle.command.specs.Applying.{EffectRight, ApplyRight, AppliesRight, StateLeft}
 use Rattle.command.proofs.Shape.{Sound, sound-state}
 use Rattle.command.proofs.States.{mode-there, mode-elsewhere}
-use Rattle.command.proofs.Acts.{acts-answers, answers-acts, acting-only}
+use Rattle.command.proofs.Acts.{acts-answers, answers-acts, answers-same, acting-only}
 
 module _ (m : Model) (state : List ℕ) (machine command : ℕ) where
   -- the move that is found answers, or none does
@@ -101,6 +101,10 @@ module _ (sheet state : List ℕ) (machine command : ℕ) (d : Parsed) (parses :
       → a ≡ record { move = found; state = stateBy m state machine command }
   gives e = let r = apply-given in cc
 
+  tells : (e : Effect) → effectReply (applyReply sheet state machine command) ≡ given e
+      → effectOf (appliedBy m state machine command) ≡ e
+  tells e h = let r = ap effectReply apply-given in cc
+
   other-stays : (i : ℕ) → (i ≡ machine → ⊥) → modeOf (stateBy m state machine command) i ≡ modeOf state i
   other-stays i n =
       ⊎-elim
@@ -108,17 +112,29 @@ module _ (sheet state : List ℕ) (machine command : ℕ) (d : Parsed) (parses :
       (λ f. rw (none-moves m state machine command (f .0)))
       (found-or-none m state machine command)
 
-  changes-exactly : (ltb found 255 ≡ true) ↔ (stateBy m state machine command ≡ state → ⊥)
-  changes-exactly =
+  -- 255 is no move
+  found-small : Answers m state machine command found → ltb found 255 ≡ true
+  found-small f = lt-ltb found 255 (omega (arith, f .there, valid .few-moves))
+
+  none-large : found ≡ 255 → ltb found 255 ≡ false
+  none-large e = rw e
+
+  effect-right : EffectRight m state (stateBy m state machine command) machine command (effectOf (appliedBy m state machine command))
+  effect-right =
       ⊎-elim
-      (λ f. (
-        λ t. answer-changes m state machine command valid f sound,
-        λ c. lt-ltb found 255 (omega (arith, f .there, valid .few-moves)),
-      ))
-      (λ f. (
-        λ t. absurd (let z : ⊥ = omega (arith, ltb-true found 255 t, f .0) in z),
-        λ c. absurd (c (none-moves m state machine command (f .0))),
-      ))
+      (λ f. record {
+        changed-exactly = (λ t. answer-changes m state machine command valid f sound, λ c. found-small f);
+        the-move = λ t. (f, λ v a. answers-same m valid state machine command a f);
+        no-move = λ t. absurd (true-false (found-small f) t);
+      })
+      (λ f. record {
+        changed-exactly = (
+          λ t. absurd (true-false t (none-large (f .0))),
+          λ c. absurd (c (none-moves m state machine command (f .0))),
+        );
+        the-move = λ t. absurd (true-false t (none-large (f .0)));
+        no-move = λ t. f;
+      })
       (found-or-none m state machine command)
 
   apply-right : ApplyRight (d .model) sheet state machine command
@@ -137,7 +153,8 @@ module _ (sheet state : List ℕ) (machine command : ℕ) (d : Parsed) (parses :
             (λ f. absurd (none _ f))
             (λ f. apply-given ∙ rw (none-moves m state machine command (f .0), f .0))
             (found-or-none m state machine command);
-        changed-exactly = λ a e. rw (gives e) changes-exactly;
+        told = λ e h.
+            rw apply-given (subst (EffectRight m state (stateBy m state machine command) machine command) (tells e h) effect-right);
       }
 
 pub applies-right : AppliesRight

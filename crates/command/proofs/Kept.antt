@@ -24,7 +24,7 @@ use Rattle.command.specs.Attainable.{groups}
 use Rattle.command.specs.Covered.{Covered}
 use Rattle.command.specs.Next.{command}
 use Rattle.command.specs.Apply.{Answers, applyReply}
-use Rattle.command.specs.Run.{Lent, none, some, Situation}
+use Rattle.command.specs.Run.{Lent, askReply, none, some, Situation}
 use Rattle.command.specs.Arrival.{AsWishedFrom}
 use Rattle.command.proofs.Facts
 use Rattle.command.proofs.Facts.{Sound}
@@ -61,6 +61,7 @@ module _ (m : Model) (lent : Lent) where
     pub group : ℕ
     pub move : ℕ
     pub sent : Sent Usable state group move
+    pub asked : askReply lent state ≡ given (command i c)
     pub machine-is : i ≡ moveAt m move .machine
     pub byte-is : c ≡ moveAt m move .command
 

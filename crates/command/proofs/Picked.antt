@@ -1,29 +1,36 @@
--- Next command replies what the method picks, and the method picks nothing else.
+-- The method picks one thing alone, next command replies that, and a move that is picked answers its command.
 -- Assumes nothing.
 use Prim.Native.Nat.{ℕ, zero, suc, _<_}
-use mathlib.Core.Path.{_≡_, sym, ap, _∙_}
+use mathlib.Core.Path.{_≡_, refl, sym, ap, subst, _∙_}
 use mathlib.Core.List.{List}
 use mathlib.Core.Bool.{true, false}
 use mathlib.Core.Logic.{⊎-elim}
 use native.Mathlib.Nat.{not-suc-le-zero}
 use native.Mathlib.Omega.{arith}
+use borrow.Author.Tests.{eqb-true, eqb-false}
+use lib.Dec.{eqb}
 use Rattle.common.specs.Reply.{Reply, given, refused}
+use Rattle.common.proofs.Reply.{given-not-refused}
 use Rattle.common.proofs.Bools.{by-cases, true-false, true-of-not-false}
 use Rattle.common.proofs.Least.{last-or-below}
-use Rattle.sheet.specs.Model.{Model}
+use Rattle.sheet.specs.Model.{Model, moveAt}
 use Rattle.sheet.specs.Valid.{Valid}
 use Rattle.sheet.proofs.Parsed.{parse-valid}
+use Rattle.plan.specs.Groups.{groupOf}
 use Rattle.plan.specs.Reading.{groupsIn, wellShaped}
 use Rattle.command.specs.Goal.{Masks, met}
 use Rattle.command.specs.Attainable.{groups}
-use Rattle.command.specs.Next.{Next, done, targetOf, holdsOutside, unfit, prepareBy, followBy, fulfil}
+use Rattle.command.specs.Next.{Next, done, command, targetOf, holdsOutside, unfit, prepareBy, followBy, fulfil}
+use Rattle.command.specs.Apply.{Answers}
+use Rattle.command.specs.Method.{Pick, nothing, misfit, entryMove, pickReply}
 use Rattle.command.specs.Method.{HighestUnmet, Target, entryToward, moveToward, Fit, MethodFollowed}
 use Rattle.command.specs.Method.{Picks, nothing-unmet, unfit as held-up, sends, prepares}
 use Rattle.command.proofs.Following
 use Rattle.command.proofs.Fitness.{fit-test, test-fit, ready-test, test-ready, waits-test, test-waits}
 use Rattle.command.proofs.Targets.{LeavesModes, goal-leaves, needs-leave, allowed-some}
 use Rattle.command.proofs.Targets.{target-right, target-only}
-use Rattle.command.proofs.Asking.{refusals-parts, next-fulfils}
+use Rattle.command.proofs.Acts.{answers-same}
+use Rattle.command.proofs.Asking.{done-not-command, refusals-parts, next-fulfils}
 
 module _ (m : Model) (plan state : List ℕ) where
   -- What the method picks is replied
@@ -72,17 +79,16 @@ module _ (m : Model) (plan state : List ℕ) where
         ∙ Following.follow-fit m plan state _ masks k (rw here (fit-test m plan state k f))
         ∙ ap (λ x. prepareBy m plan state (fulfilBelow k) k (moveToward m plan state k x)) here
 
-  picks-replied : {masks : Masks} {n : ℕ} {r : Reply Next} → Picks m plan state masks n r
-      → r ≡ fulfil m plan state masks n
-  picks-replied {masks} {n} (nothing-unmet h) = sym (fulfil-all-met masks n h)
-  picks-replied (held-up k q h t f) = sym (fulfil-unfit k q h t f)
+  picks-replied : {masks : Masks} {n : ℕ} {p : Pick} → Picks m plan state masks n p
+      → fulfil m plan state masks n ≡ pickReply m p
+  picks-replied {masks} {n} (nothing-unmet h) = fulfil-all-met masks n h
+  picks-replied (held-up k q h t f) = fulfil-unfit k q h t f
   picks-replied (sends k q h t f o) =
-      sym (fulfil-fit k q h t f ∙ Following.prepare-sends m plan state _ k _ (ready-test m plan state k _ o))
+      fulfil-fit k q h t f ∙ Following.prepare-sends m plan state _ k _ (ready-test m plan state k _ o)
   picks-replied (prepares k q h t f w p) =
-      picks-replied p
-      ∙ sym (fulfil-fit k q h t f ∙ Following.prepare-asks m plan state _ k _ (waits-test m plan state k _ w))
+      fulfil-fit k q h t f ∙ Following.prepare-asks m plan state _ k _ (waits-test m plan state k _ w) ∙ picks-replied p
 
-  -- What is replied the method picks
+  -- Something is picked
 
   highest : (masks : Masks) (k : ℕ) → met (groups m plan) masks state k ≡ false
       → HighestUnmet m plan state masks (suc k) k
@@ -98,21 +104,19 @@ module _ (m : Model) (plan state : List ℕ) where
         above-met = λ i l b. ⊎-elim (λ s. rw s e) (λ s. h .above-met i l s) (last-or-below b);
       }
 
-  lifted : {masks : Masks} {k : ℕ} {r : Reply Next} → met (groups m plan) masks state k ≡ true
-      → Picks m plan state masks k r → Picks m plan state masks (suc k) r
+  lifted : {masks : Masks} {k : ℕ} {p : Pick} → met (groups m plan) masks state k ≡ true
+      → Picks m plan state masks k p → Picks m plan state masks (suc k) p
   lifted e (nothing-unmet f) = nothing-unmet (λ a h. ⊎-elim (λ i. rw i e) (λ i. f a i) (last-or-below h))
   lifted e (held-up j q h t f) = held-up j q (raised e h) t f
   lifted e (sends j q h t f o) = sends j q (raised e h) t f o
   lifted e (prepares j q h t f w p) = prepares j q (raised e h) t f w p
 
   module _ (valid : Valid m) (shaped : wellShaped m plan ≡ true) where
-    replied-picks : (n : ℕ) (masks : Masks) → LeavesModes m masks
-        → Picks m plan state masks n (fulfil m plan state masks n)
-    replied-picks zero masks leaves =
-        rw (Following.fulfil-none m plan state masks) (nothing-unmet (λ k h. absurd (not-suc-le-zero h)))
-    replied-picks (suc k) masks leaves =
+    picks-some : (n : ℕ) (masks : Masks) → LeavesModes m masks → (p : Pick) × Picks m plan state masks n p
+    picks-some zero masks leaves = (nothing, nothing-unmet (λ k h. absurd (not-suc-le-zero h)))
+    picks-some (suc k) masks leaves =
         by-cases (met (groups m plan) masks state k)
-        (λ e. rw (Following.fulfil-met m plan state masks k e) (lifted e (replied-picks k masks leaves)))
+        (λ e. let r = picks-some k masks leaves in (r .0, lifted e (r .1)))
         (λ unmet.
         let some = allowed-some m valid plan shaped masks leaves k in
         let q = targetOf m plan state masks k in
@@ -120,25 +124,79 @@ module _ (m : Model) (plan state : List ℕ) where
         let t = target-right m plan state masks k (some .1) (some .2) in
         by-cases (unfit m plan state k (entryToward m plan state k q))
         (λ u.
-        let f : Fit m plan state k (entryToward m plan state k q) → ⊥ = λ f. true-false u (fit-test m plan state k f) in
-        rw (fulfil-unfit k q h t f) (held-up k q h t f))
+        (misfit, held-up k q h t (λ f. true-false u (fit-test m plan state k f))))
         (λ u.
         let f = test-fit m plan state k u in
         let v = moveToward m plan state k q in
         by-cases (holdsOutside m plan state k v)
-        (λ o. rw (fulfil-fit k q h t f, Following.prepare-sends m plan state _ k v o)
-        (sends k q h t f (test-ready m plan state k v o)))
-        (λ o. rw (fulfil-fit k q h t f, Following.prepare-asks m plan state _ k v o)
-        (prepares k q h t f (test-waits m plan state k v o)
-        (replied-picks k _ (needs-leave m valid (groupsIn m plan) k _ (f .listed)))))))
+        (λ o. (entryMove (entryToward m plan state k q .move), sends k q h t f (test-ready m plan state k v o)))
+        (λ o. let r = picks-some k _ (needs-leave m valid (groupsIn m plan) k _ (f .listed)) in
+        (r .0, prepares k q h t f (test-waits m plan state k v o) (r .1)))))
+
+  -- Nothing else is
+
+  -- a move that is picked answers its command
+  abbrev OwnAnswers : Pick → Type 0
+  OwnAnswers nothing = Unit {0}
+  OwnAnswers misfit = Unit {0}
+  OwnAnswers (entryMove v) = Answers m state (moveAt m v .machine) (moveAt m v .command) v
+
+  pub picked-answers : {masks : Masks} {n : ℕ} {p : Pick} → Picks m plan state masks n p → OwnAnswers p
+  picked-answers (nothing-unmet h) = tt
+  picked-answers (held-up k q h t f) = tt
+  picked-answers (sends k q h t f o) =
+      record {
+        there = f .listed;
+        its-machine = refl;
+        its-from = sym (f .from-now);
+        its-byte = refl;
+        its-needs = λ g l. by-cases (eqb (groupOf (groups m plan) (g .machine)) k)
+            (λ i. f .inside g l (eqb-true _ _ i)) (λ i. o g l (eqb-false _ _ i));
+      }
+  picked-answers (prepares k q h t f w p) = picked-answers p
+
+  module _ (valid : Valid m) where
+    -- and no other pick has the same reply
+    same-reply : (p q : Pick) → OwnAnswers p → OwnAnswers q → pickReply m p ≡ pickReply m q → p ≡ q
+    same-reply nothing nothing a b e = refl
+    same-reply nothing misfit a b e = absurd (given-not-refused e)
+    same-reply nothing (entryMove w) a b e = absurd (done-not-command e)
+    same-reply misfit nothing a b e = absurd (given-not-refused (sym e))
+    same-reply misfit misfit a b e = refl
+    same-reply misfit (entryMove w) a b e = absurd (given-not-refused (sym e))
+    same-reply (entryMove v) nothing a b e = absurd (done-not-command (sym e))
+    same-reply (entryMove v) misfit a b e = absurd (given-not-refused e)
+    same-reply (entryMove v) (entryMove w) a b e =
+        let machine : moveAt m w .machine ≡ moveAt m v .machine = cc in
+        let byte : moveAt m w .command ≡ moveAt m v .command = cc in
+        ap entryMove (answers-same m valid state _ _ a (rw (machine, byte) at b))
+
+    picks-one : {masks : Masks} {n : ℕ} {p q : Pick} → Picks m plan state masks n p → Picks m plan state masks n q → p ≡ q
+    picks-one {masks} {n} {p} {q} a b =
+        same-reply p q (picked-answers a) (picked-answers b) (sym (picks-replied a) ∙ picks-replied b)
+
+    -- a command that is replied, and that a move answers, is picked by the entry that names this move
+    pub picks-move : wellShaped m plan ≡ true → (n : ℕ) (masks : Masks) → LeavesModes m masks → (v : ℕ)
+        → Answers m state (moveAt m v .machine) (moveAt m v .command) v
+        → fulfil m plan state masks n ≡ given (command (moveAt m v .machine) (moveAt m v .command))
+        → Picks m plan state masks n (entryMove v)
+    picks-move shaped n masks leaves v a e =
+        let (p, picks) = picks-some valid shaped n masks leaves in
+        subst (Picks m plan state masks n)
+        (same-reply p (entryMove v) (picked-answers picks) a (sym (picks-replied picks) ∙ e)) picks
 
 pub method-followed : MethodFollowed
 method-followed sheet plan state goal d parsed shaped passes =
+    let m = d .model in
     let valid = parse-valid sheet parsed in
-    let parts = refusals-parts (d .model) plan state goal passes in
-    let leaves = goal-leaves (d .model) valid goal (parts .1) in
-    let e = next-fulfils sheet plan state goal d parsed shaped (parts .0) (parts .1) (parts .2) in
+    let parts = refusals-parts m plan state goal passes in
+    let (p, picks) = picks-some m plan state valid shaped _ _ (goal-leaves m valid goal (parts .1)) in
     record {
-      picked = rw e (replied-picks (d .model) plan state valid shaped _ _ leaves);
-      alone = λ r p. picks-replied (d .model) plan state p ∙ sym e;
+      pick = p;
+      picked = picks;
+      alone = λ q h. picks-one m plan state valid h picks;
+      replied =
+          next-fulfils sheet plan state goal d parsed shaped (parts .0) (parts .1) (parts .2)
+          ∙ picks-replied m plan state picks;
+      answers = λ v h. picked-answers m plan state h;
     }

@@ -10,6 +10,8 @@ use denote.Enum.Declared.{tagOf}
 use Rattle.common.specs.Reply.{Reply, given, refused, andThen}
 use Rattle.common.proofs.Reply.{andThen-given, given-clear, given-stays}
 use Rattle.sheet.specs.declared.index.Machine.{Machine}
+use Rattle.sheet.specs.declared.refusal.Cause.{Cause}
+use Rattle.sheet.specs.Refusal.{numberOf}
 use Rattle.sheet.specs.Parse.{parse}
 use Rattle.sheet.proofs.Parsed.{parse-valid}
 use Rattle.plan.specs.Groups.{groupsOf}
@@ -22,13 +24,16 @@ use Rattle.plan.proofs.NumbersUsed.{gapless-count}
 use Rattle.plan.proofs.Planning.{length-groupsOf}
 use Rattle.command.specs.declared.method.Advice.{Advice}
 use Rattle.command.specs.declared.method.Advice.the-variants.{Done, Send, Refused}
-use Rattle.command.specs.Apply.{applyReply, stateAfter}
-use Rattle.command.specs.Advised.{adviceSays}
-use Rattle.command.specs.Next.{Next, done, command, nextReply}
-use Rattle.command.specs.Walk.{obey, afterPlanning, walkLines}
-use Rattle.command.specs.Walking.{planFront, obeyed, linesBy, TurnsRight}
-use Rattle.command.proofs.method.Advice.{the-type}
-use Rattle.command.proofs.Walks.{obey-done, obey-stops, obey-sends}
+use Rattle.command.specs.declared.acting.Change.{Change}
+use Rattle.command.specs.declared.acting.Change.the-variants.{Changed, Unchanged, TurnedDown}
+use Rattle.command.specs.Next.{nextReply}
+use Rattle.command.specs.Apply.{Applied, Effect, applyReply, effectReply, stateAfter}
+use Rattle.command.specs.Advised.{adviceSays, changeSays}
+use Rattle.command.specs.Walk.{Turn, over, obeyed, obeyReply, turnReply, afterPlanning, walkLines}
+use Rattle.command.specs.Walking.{planFront, turnTold, turnLeaves, TurnsRight}
+use Rattle.command.proofs.method.Advice.{the-type as advice-type}
+use Rattle.command.proofs.acting.Change.{the-type as change-type}
+use Rattle.command.proofs.Walks.{turn-done, turn-stops, turn-sends, obey-turn}
 
 -- no plan is longer: 32 machines in 32 groups, and 16,384 entries
 pub length-most : (sheet : List ℕ) {n : ℕ} → lengthReply sheet ≡ given n → n ≤ 32944
@@ -58,35 +63,77 @@ enough sheet buffer (given n) h =
     ap (λ k. planReply sheet k 4096) (omega arith)
 enough sheet buffer (refused number place) h = refl
 
-goes : (sheet plan goal : List ℕ) (bound n count : ℕ) (state : List ℕ) (r : Reply Next)
-    → nextReply sheet plan state goal ≡ r
-    → obey sheet plan goal bound (suc n) count state
-    ≡ linesBy r count bound (obey sheet plan goal bound n (count + 1) (obeyed sheet state r))
-goes sheet plan goal bound n count state (given done) e = obey-done sheet plan goal bound n count state e
-goes sheet plan goal bound n count state (given (command i c)) e = obey-sends sheet plan goal bound n count state e
-goes sheet plan goal bound n count state (refused number place) e = obey-stops sheet plan goal bound n count state e
-
 pub turns-right : (sheet state goal : List ℕ) → TurnsRight sheet state goal
 unfolding walkLines planFront
 turns-right sheet state goal =
     record {
       begins = λ buffer h. ap (afterPlanning sheet state goal) (enough sheet buffer (lengthReply sheet) h);
       long-enough = λ n e. length-most sheet e;
-      goes-on = λ plan bound n count. goes sheet plan goal bound n count state (nextReply sheet plan state goal) refl;
+      goes-on = λ plan bound n count. obey-turn sheet plan goal bound n count state _ refl;
     }
 
 -- One turn
 
--- a reply that is no command leaves the state as it was
-pub turn-stays : (sheet state : List ℕ) (a : Advice) {r : Reply Next} → OneOf (0 ∷ 2 ∷ []) (tagOf the-type a)
-    → adviceSays a ≡ r → (adviceSays a ≡ r) × (state ≡ obeyed sheet state r)
-turn-stays sheet state Done k e = (e, ap (obeyed sheet state) e)
-turn-stays sheet state (Send machine byte) k e =
-    absurd (⊎-elim (λ z. let f : ⊥ = omega arith in f) (λ z. let f : ⊥ = omega arith in f) k)
-turn-stays sheet state (Refused cause place) k e = (e, ap (obeyed sheet state) e)
+-- what obeying a command tells, by what applying it tells
+abbrev toldBy : ℕ → ℕ → Reply Effect → Reply (Turn ℕ)
+toldBy i c (given e) = given (obeyed i c (e .move))
+toldBy i c (refused number place) = refused number place
 
--- a command is applied
-pub turn-sends : (sheet state : List ℕ) {machine : Machine} {byte : ℕ} (a : Advice) {r : Reply Next} {state' : List ℕ}
-    → adviceSays a ≡ r → a ≡ Send machine byte → state' ≡ stateAfter (applyReply sheet state (machine .0) byte) state
-    → (given (command (machine .0) byte) ≡ r) × (state' ≡ obeyed sheet state r)
-turn-sends sheet state a e s left = let w = ap adviceSays (sym s) ∙ e in (w, left ∙ ap (obeyed sheet state) w)
+module _ (sheet state : List ℕ) (i c : ℕ) where
+  told-is : turnTold (obeyReply sheet state i c) ≡ toldBy i c (effectReply (applyReply sheet state i c))
+  unfolding obeyReply andThen
+  told-is = go (applyReply sheet state i c)
+    where
+      go : (q : Reply Applied) → turnTold (andThen q (λ a. given (obeyed i c a))) ≡ toldBy i c (effectReply q)
+      go (given a) = refl
+      go (refused number place) = refl
+
+  left-is : turnLeaves (obeyReply sheet state i c) state ≡ stateAfter (applyReply sheet state i c) state
+  unfolding obeyReply andThen
+  left-is = go (applyReply sheet state i c)
+    where
+      go : (q : Reply Applied) → turnLeaves (andThen q (λ a. given (obeyed i c a))) state ≡ stateAfter q state
+      go (given a) = refl
+      go (refused number place) = refl
+
+  -- `obey`: by what applying answers
+  pub obeyed-by : (r x : Change) {state' : List ℕ} → changeSays r ≡ effectReply (applyReply sheet state i c) → r ≡ x
+      → state' ≡ stateAfter (applyReply sheet state i c) state
+      → (toldBy i c (changeSays x) ≡ turnTold (obeyReply sheet state i c)) × (state' ≡ turnLeaves (obeyReply sheet state i c) state)
+  obeyed-by r x e a left = (ap (toldBy i c) (ap changeSays (sym a) ∙ e) ∙ sym told-is, left ∙ sym left-is)
+
+module _ (sheet plan state goal : List ℕ) where
+  -- `turn`: by what next command answers
+  pub turned-done : (r : Advice) → adviceSays r ≡ nextReply sheet plan state goal → r ≡ Done
+      → (given over ≡ turnTold (turnReply sheet plan state goal)) × (state ≡ turnLeaves (turnReply sheet plan state goal) state)
+  turned-done r e a =
+      let t = turn-done sheet plan state goal (sym e ∙ ap adviceSays a) in
+      (sym (ap turnTold t), sym (ap (λ q. turnLeaves q state) t))
+
+  pub turned-down : (r : Advice) {cause : Cause} {place : ℕ} → adviceSays r ≡ nextReply sheet plan state goal
+      → r ≡ Refused cause place
+      → (refused (numberOf cause) place ≡ turnTold (turnReply sheet plan state goal))
+      × (state ≡ turnLeaves (turnReply sheet plan state goal) state)
+  turned-down r e a =
+      let t = turn-stops sheet plan state goal (sym e ∙ ap adviceSays a) in
+      (sym (ap turnTold t), sym (ap (λ q. turnLeaves q state) t))
+
+  pub turned-by : (r : Advice) {m : Machine} {byte : ℕ} {told : Reply (Turn ℕ)} {left : List ℕ}
+      → adviceSays r ≡ nextReply sheet plan state goal → r ≡ Send m byte
+      → (told ≡ turnTold (obeyReply sheet state (m .0) byte)) × (left ≡ turnLeaves (obeyReply sheet state (m .0) byte) state)
+      → (told ≡ turnTold (turnReply sheet plan state goal)) × (left ≡ turnLeaves (turnReply sheet plan state goal) state)
+  turned-by r e a h = rw (turn-sends sheet plan state goal (sym e ∙ ap adviceSays a)) h
+
+-- The cases that are left by two tests
+
+pub unchanged-left : (r : Change) → OneOf (0 ∷ 1 ∷ []) (tagOf change-type r) → OneOf (1 ∷ 2 ∷ []) (tagOf change-type r)
+    → r ≡ Unchanged
+unchanged-left (Changed v) k l = absurd (⊎-elim (λ z. omega arith) (λ z. omega arith) l)
+unchanged-left Unchanged k l = refl
+unchanged-left (TurnedDown cause place) k l = absurd (⊎-elim (λ z. omega arith) (λ z. omega arith) k)
+
+pub done-left : (r : Advice) → OneOf (0 ∷ 1 ∷ []) (tagOf advice-type r) → OneOf (0 ∷ 2 ∷ []) (tagOf advice-type r)
+    → r ≡ Done
+done-left Done k l = refl
+done-left (Send m byte) k l = absurd (⊎-elim (λ z. omega arith) (λ z. omega arith) l)
+done-left (Refused cause place) k l = absurd (⊎-elim (λ z. omega arith) (λ z. omega arith) k)

@@ -48,16 +48,25 @@ abbrev pub appliedBy : Model → List ℕ → ℕ → ℕ → Applied
 appliedBy m state machine command =
     record { move = actingMove m state machine command; state = stateBy m state machine command }
 
--- whether a machine changed
-abbrev pub changed : Applied → Bool
-changed a = ltb (a .move) noneActs
-
 -- the reply of applying a command: tests 1 to 8, then 13
 unfoldable pub applyReply : List ℕ → List ℕ → ℕ → ℕ → Reply Applied
 applyReply sheet state machine command =
     andThen (parse sheet) (λ d.
     unless (stateFaults (d .model) state)
     (given (appliedBy (d .model) state machine command)))
+
+-- what applying tells: whether a machine changed, and the move that it was, 255 for none
+pub record Effect : Type 0 where
+  pub changed : Bool
+  pub move : ℕ
+
+abbrev pub effectOf : Applied → Effect
+effectOf a = record { changed = ltb (a .move) noneActs; move = a .move }
+
+-- the reply without the state itself, which is in the lent bytes
+abbrev pub effectReply : Reply Applied → Reply Effect
+effectReply (given a) = given (effectOf a)
+effectReply (refused number place) = refused number place
 
 -- what applying leaves in the lent state
 abbrev pub stateAfter : Reply Applied → List ℕ → List ℕ

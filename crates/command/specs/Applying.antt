@@ -1,14 +1,24 @@
--- "A command": when it acts, and what applying it leaves.
+-- "A command": when it acts, by which move, and what applying it leaves.
 use Prim.Native.Nat.{ℕ}
 use mathlib.Core.Path.{_≡_}
 use mathlib.Core.Logic.{_↔_}
 use mathlib.Core.List.{List}
-use mathlib.Core.Bool.{true}
+use mathlib.Core.Bool.{true, false}
 use Rattle.common.specs.Reply.{given, refused, clear}
 use Rattle.sheet.specs.Model.{Model, moveAt}
 use Rattle.sheet.specs.Parse.{Parsed, parse}
 use Rattle.command.specs.State.{modeOf, stateFaults}
-use Rattle.command.specs.Apply.{Answers, Applied, changed, applyReply, stateAfter}
+use Rattle.command.specs.Apply.{Answers, Applied, Effect, applyReply, effectReply, stateAfter}
+
+-- What applying tells of the move, by the states before and afterwards.
+pub record EffectRight (m : Model) (state after : List ℕ) (machine command : ℕ) (e : Effect) : Type 0 where
+  -- a machine changed exactly if the state is another
+  pub changed-exactly : (e .changed ≡ true) ↔ (after ≡ state → ⊥)
+  -- then the move is the one that answers the command: no two can
+  pub the-move : e .changed ≡ true
+      → Answers m state machine command (e .move) × ((v : ℕ) → Answers m state machine command v → v ≡ e .move)
+  -- else it is 255, and none does
+  pub no-move : e .changed ≡ false → (e .move ≡ 255) × ((v : ℕ) → Answers m state machine command v → ⊥)
 
 -- Applying a command to a state that passes 13.
 pub record ApplyRight (m : Model) (sheet state : List ℕ) (machine command : ℕ) : Type 0 where
@@ -21,9 +31,9 @@ pub record ApplyRight (m : Model) (sheet state : List ℕ) (machine command : �
   -- if none does, nothing changes
   pub idle : ((v : ℕ) → Answers m state machine command v → ⊥)
       → applyReply sheet state machine command ≡ given (record { move = 255; state = state })
-  -- a machine changed exactly if the state is another
-  pub changed-exactly : (a : Applied) → applyReply sheet state machine command ≡ given a
-      → (changed a ≡ true) ↔ (a .state ≡ state → ⊥)
+  -- what is told of it
+  pub told : (e : Effect) → effectReply (applyReply sheet state machine command) ≡ given e
+      → EffectRight m state (stateAfter (applyReply sheet state machine command) state) machine command e
 
 abbrev pub AppliesRight : Type 0
 AppliesRight =

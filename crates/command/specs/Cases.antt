@@ -33,7 +33,7 @@ use Rattle.command.specs.Next.{Next, done, command, nearest, targetOf, h
 use Rattle.command.specs.Next.{goalRefusals, misshapen, nextReply}
 use Rattle.command.specs.Apply.{Applied, acts, actingMove, stateBy, applyReply}
 use Rattle.command.specs.Run.{lend, Call, ask, apply, refusedNext, refusedApply, none, begins, after, afterAll, Run}
-use Rattle.command.specs.Walk.{Line, sent, finished, stopped, obey, walkLines}
+use Rattle.command.specs.Walk.{Line, sent, finished, stopped, obeyReply, turnReply, obey, walkLines}
 use Rattle.command.specs.Examples.{stove, lone, filterAndPan, burnt, nearer, tied, apart, lidAndArm, eights, seventy}
 use Rattle.command.specs.Examples.{parsedIn, modelIn, otherPlan, planWith, planOf, blank}
 
@@ -102,7 +102,7 @@ cases =
     -- 2: from fan off, burner lit to fan on, burner lit
     ∷ far stove 1 2 3 3
     -- 3
-    ∷ walks stove (0 ∷ 0 ∷ 0 ∷ []) (1 ∷ 2 ∷ 2 ∷ []) (sent 0 1 ∷ sent 1 1 ∷ sent 2 1 ∷ sent 0 2 ∷ finished 4 7 ∷ [])
+    ∷ walks stove (0 ∷ 0 ∷ 0 ∷ []) (1 ∷ 2 ∷ 2 ∷ []) (sent 0 1 0 ∷ sent 1 1 2 ∷ sent 2 1 4 ∷ sent 0 2 1 ∷ finished 4 7 ∷ [])
     -- 4
     ∷ asks stove (1 ∷ 1 ∷ 2 ∷ []) (2 ∷ 2 ∷ 2 ∷ []) (given (command 2 3))
     -- 5
@@ -137,11 +137,11 @@ cases =
     ∷ asks stove (1 ∷ 1 ∷ 2 ∷ []) [] (given done)
     ∷ asks stove off (1 ∷ []) (given done)
     ∷ walks stove off (1 ∷ []) (finished 0 7 ∷ [])
-    ∷ walks stove (1 ∷ 0 ∷ 0 ∷ []) (1 ∷ []) (sent 0 2 ∷ finished 1 7 ∷ [])
+    ∷ walks stove (1 ∷ 0 ∷ 0 ∷ []) (1 ∷ []) (sent 0 2 1 ∷ finished 1 7 ∷ [])
     -- two needs on one group, of which one holds: both are prepared at once, so the lid is not shut again
     ∷ asks lidAndArm (1 ∷ 0 ∷ 0 ∷ []) (3 ∷ 7 ∷ 2 ∷ []) (given (command 1 3))
     ∷ walks lidAndArm (0 ∷ 1 ∷ 0 ∷ []) (3 ∷ 7 ∷ 2 ∷ [])
-    (sent 1 1 ∷ sent 0 1 ∷ sent 1 3 ∷ sent 1 4 ∷ sent 2 1 ∷ finished 5 11 ∷ [])
+    (sent 1 1 2 ∷ sent 0 1 0 ∷ sent 1 3 4 ∷ sent 1 4 5 ∷ sent 2 1 6 ∷ finished 5 11 ∷ [])
     -- the sheet first, then the plan's shape
     ∷ follows [] [] [] [] (refused 1 0)
     ∷ applies [] [] 0 0 (refused 1 0)
@@ -218,7 +218,7 @@ unfolding
     modes withMode absentMode stateFaults badByte goalFaults goalMasks guardMasks met allowed downTo groupGraph upstream
     liveGroup attains deadEnd highest faultOf groupFaults attainFaults nearest targetOf holdsInside holdsOutside
     unfit prepareBy followBy fulfil goalRefusals misshapen nextReply acts actingMove stateBy applyReply after
-    afterAll obey walkLines
+    afterAll obeyReply turnReply obey walkLines
 cases-hold =
     (refl, refl, refl, refl) ⊗ refl ⊗ refl ⊗ refl ⊗ refl ⊗ refl ⊗ (refl, refl, refl, refl) ⊗ refl ⊗ refl ⊗ refl
     ⊗ refl ⊗ refl ⊗ refl ⊗ refl ⊗ refl ⊗ refl ⊗ refl ⊗ refl ⊗ refl ⊗ refl ⊗ refl ⊗ refl ⊗ refl ⊗ refl ⊗ refl ⊗ refl

@@ -1,5 +1,5 @@
--- The method, stated as a relation with no search: which reply is picked for a goal, under any plan in shape (demand 2, on
--- commands and on entries that cannot be followed).
+-- The method, stated as a relation with no search: which entry's move is picked for a goal, under any plan in shape (demand 2,
+-- on commands and on entries that cannot be followed), and what is replied then.
 use Prim.Native.Nat.{ℕ, _≤_, _<_}
 use mathlib.Core.Path.{_≡_}
 use mathlib.Core.List.{List, List·Memᴰ}
@@ -16,6 +16,19 @@ use Rattle.command.specs.State.{modeOf}
 use Rattle.command.specs.Goal.{Masks, goalMasks, guardMasks, met, allowed}
 use Rattle.command.specs.Attainable.{groups, present}
 use Rattle.command.specs.Next.{Next, done, command, distanceTo, goalRefusals, nextReply}
+use Rattle.command.specs.Apply.{Answers}
+
+-- what the method comes to: nothing is unmet, an entry is unfit, or an entry's move is sent
+pub data Pick : Type 0 where
+  nothing : Pick
+  misfit : Pick
+  entryMove : ℕ → Pick
+
+-- what is replied then
+abbrev pub pickReply : Model → Pick → Reply Next
+pickReply m nothing = given done
+pickReply m misfit = refused 15 0
+pickReply m (entryMove v) = given (command (moveAt m v .machine) (moveAt m v .command))
 
 module _ (m : Model) (plan state : List ℕ) where
   -- group k is the highest-numbered unmet one below n
@@ -62,25 +75,33 @@ module _ (m : Model) (plan state : List ℕ) where
     pub outside : groupOf (groups m plan) (need .machine) ≡ k → ⊥
     pub fails : Holds need → ⊥
 
-  -- for a goal on the groups below n the method picks a reply
-  pub data Picks : Masks → ℕ → Reply Next → Type 0 where
+  -- what the method picks for a goal on the groups below n
+  pub data Picks : Masks → ℕ → Pick → Type 0 where
     nothing-unmet : {masks : Masks} {n : ℕ} → ((k : ℕ) → k < n → met (groups m plan) masks state k ≡ true)
-        → Picks masks n (given done)
+        → Picks masks n nothing
     unfit : {masks : Masks} {n : ℕ} (k q : ℕ) → HighestUnmet masks n k → Target masks k q
-        → (Fit k (entryToward k q) → ⊥) → Picks masks n (refused 15 0)
+        → (Fit k (entryToward k q) → ⊥) → Picks masks n misfit
     sends : {masks : Masks} {n : ℕ} (k q : ℕ) → HighestUnmet masks n k → Target masks k q
         → Fit k (entryToward k q) → Ready k (moveToward k q)
-        → Picks masks n (given (command (moveToward k q .machine) (moveToward k q .command)))
-    prepares : {masks : Masks} {n : ℕ} {r : Reply Next} (k q : ℕ) → HighestUnmet masks n k → Target masks k q
+        → Picks masks n (entryMove (entryToward k q .move))
+    prepares : {masks : Masks} {n : ℕ} {p : Pick} (k q : ℕ) → HighestUnmet masks n k → Target masks k q
         → Fit k (entryToward k q) → Waits k (moveToward k q)
-        → Picks (guardMasks m (groups m plan) k (moveToward k q)) k r → Picks masks n r
+        → Picks (guardMasks m (groups m plan) k (moveToward k q)) k p → Picks masks n p
 
--- For a sheet that passes, a plan in shape, and a state and goal that pass 13 and 14, the goal covered: the reply is what the
--- method picks, and it picks one reply alone.
+-- what the method picks for a caller's goal
+abbrev pub PicksFor : Model → List ℕ → List ℕ → List ℕ → Pick → Type 0
+PicksFor m plan state goal = Picks m plan state (goalMasks m goal) (groupCount (groupsIn m plan))
+
+-- For a sheet that passes, a plan in shape, and a state and goal that pass 13 and 14, the goal covered: the method picks one
+-- thing alone, and that is replied.
 pub record MethodRight (m : Model) (sheet plan state goal : List ℕ) : Type 0 where
-  pub picked : Picks m plan state (goalMasks m goal) (groupCount (groupsIn m plan)) (nextReply sheet plan state goal)
-  pub alone : (r : Reply Next) → Picks m plan state (goalMasks m goal) (groupCount (groupsIn m plan)) r
-      → r ≡ nextReply sheet plan state goal
+  pub pick : Pick
+  pub picked : PicksFor m plan state goal pick
+  pub alone : (p : Pick) → PicksFor m plan state goal p → p ≡ pick
+  pub replied : nextReply sheet plan state goal ≡ pickReply m pick
+  -- the move that its entry names is the one that answers the command
+  pub answers : (v : ℕ) → PicksFor m plan state goal (entryMove v)
+      → Answers m state (moveAt m v .machine) (moveAt m v .command) v
 
 abbrev pub MethodFollowed : Type 0
 MethodFollowed =

@@ -6,23 +6,40 @@ use Rattle.sheet.specs.Parse.{Parsed, parse}
 use Rattle.plan.specs.Planning.{lengthReply, planReply}
 use Rattle.plan.specs.Reading.{boundIn}
 use Rattle.command.specs.Next.{done, command, nextReply}
-use Rattle.command.specs.Apply.{applyReply, stateAfter}
+use Rattle.command.specs.Apply.{Applied, applyReply}
 
--- a machine and a command; `done`, the count and the bound; `refused`, the number and the place
+-- a machine, a command and the move that it was; `done`, the count and the bound; `refused`, the number and the place
 pub data Line : Type 0 where
-  sent : ℕ → ℕ → Line
+  sent : ℕ → ℕ → ℕ → Line
   finished : ℕ → ℕ → Line
   stopped : ℕ → ℕ → Line
+
+-- one turn: nothing is left to be done, or a machine, a command and what applying it did
+pub data Turn (A : Type 0) : Type 0 where
+  over : Turn A
+  obeyed : ℕ → ℕ → A → Turn A
+
+-- obeys a command
+unfoldable pub obeyReply : List ℕ → List ℕ → ℕ → ℕ → Reply (Turn Applied)
+obeyReply sheet state i c = andThen (applyReply sheet state i c) (λ a. given (obeyed i c a))
+
+-- asks for the next command and obeys it
+unfoldable pub turnReply : List ℕ → List ℕ → List ℕ → List ℕ → Reply (Turn Applied)
+turnReply sheet plan state goal =
+    andThen (nextReply sheet plan state goal) (λ r. elim r [
+      | done ↦ given over
+      | command i c ↦ obeyReply sheet state i c
+    ])
 
 module _ (sheet plan goal : List ℕ) (bound : ℕ) where
   -- at most n more lines, after a count of commands
   unfoldable pub obey : ℕ → ℕ → List ℕ → List Line
   obey zero count state = []
   obey (suc n) count state =
-      elim (nextReply sheet plan state goal) [
-        | given r ↦ elim r [
-          | done ↦ finished count bound ∷ []
-          | command i c ↦ sent i c ∷ obey n (count + 1) (stateAfter (applyReply sheet state i c) state)
+      elim (turnReply sheet plan state goal) [
+        | given t ↦ elim t [
+          | over ↦ finished count bound ∷ []
+          | obeyed i c a ↦ sent i c (a .move) ∷ obey n (count + 1) (a .state)
         ]
         | refused number place ↦ stopped number place ∷ []
       ]

@@ -19,7 +19,7 @@ module _ (sheet plan goal : List ℕ) (bound : ℕ) where
         → Obeys count state (stopped n p ∷ [])
     went : {count i c : ℕ} {state : List ℕ} {lines : List Line} (a : Applied)
         → nextReply sheet plan state goal ≡ given (command i c) → applyReply sheet state i c ≡ given a
-        → Obeys (suc count) (a .state) lines → Obeys count state (sent i c ∷ lines)
+        → Obeys (suc count) (a .state) lines → Obeys count state (sent i c (a .move) ∷ lines)
 
 -- The walk's lines: a refusal of planning alone, or those of obeying the plan, to the end.
 pub record WalkRight (sheet state goal : List ℕ) : Type 0 where

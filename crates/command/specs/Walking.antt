@@ -9,9 +9,11 @@ use Rattle.sheet.specs.Parse.{parse}
 use Rattle.plan.specs.Planning.{lengthReply, planReply}
 use Rattle.command.specs.declared.walking.Start.{Start}
 use Rattle.command.specs.declared.walking.Start.the-variants.{Ready, Stopped}
-use Rattle.command.specs.Next.{Next, done, command, nextReply}
-use Rattle.command.specs.Apply.{applyReply, stateAfter}
-use Rattle.command.specs.Walk.{Line, sent, finished, stopped, obey, boundWritten, afterPlanning, walkLines}
+use Rattle.command.specs.declared.walking.Turned.{Turned}
+use Rattle.command.specs.declared.walking.Turned.the-variants.{Done, Sent, Refused}
+use Rattle.command.specs.Apply.{Applied}
+use Rattle.command.specs.Walk.{Line, sent, finished, stopped, Turn, over, obeyed, turnReply, obey}
+use Rattle.command.specs.Walk.{boundWritten, afterPlanning, walkLines}
 
 -- how long a plan is, and its bound
 pub record Started : Type 0 where
@@ -34,16 +36,28 @@ abbrev pub startSays : Start → Reply Started
 startSays (Ready bytes bound) = given (started bytes bound)
 startSays (Stopped cause place) = refused (numberOf cause) place
 
--- the state after a turn: the command that was replied is applied
-abbrev pub obeyed : List ℕ → List ℕ → Reply Next → List ℕ
-obeyed sheet state (given done) = state
-obeyed sheet state (given (command i c)) = stateAfter (applyReply sheet state i c) state
-obeyed sheet state (refused number place) = state
+-- what a turn tells: the machine, the command and the move; the state is in the lent bytes
+abbrev pub turnTold : Reply (Turn Applied) → Reply (Turn ℕ)
+turnTold (given over) = given over
+turnTold (given (obeyed i c a)) = given (obeyed i c (a .move))
+turnTold (refused number place) = refused number place
+
+-- the state after a turn
+abbrev pub turnLeaves : Reply (Turn Applied) → List ℕ → List ℕ
+turnLeaves (given over) state = state
+turnLeaves (given (obeyed i c a)) state = a .state
+turnLeaves (refused number place) state = state
+
+-- what the code's answer says
+abbrev pub turnSays : Turned → Reply (Turn ℕ)
+turnSays Done = given over
+turnSays (Sent machine byte move) = given (obeyed (machine .0) byte move)
+turnSays (Refused cause place) = refused (numberOf cause) place
 
 -- the line of a turn, and those that come later if it sends a command
-abbrev pub linesBy : Reply Next → ℕ → ℕ → List Line → List Line
-linesBy (given done) count bound later = finished count bound ∷ []
-linesBy (given (command i c)) count bound later = sent i c ∷ later
+abbrev pub linesBy : Reply (Turn ℕ) → ℕ → ℕ → List Line → List Line
+linesBy (given over) count bound later = finished count bound ∷ []
+linesBy (given (obeyed i c v)) count bound later = sent i c v ∷ later
 linesBy (refused number place) count bound later = stopped number place ∷ []
 
 -- What the two have to do with the lines of the walk.
@@ -56,5 +70,5 @@ pub record TurnsRight (sheet state goal : List ℕ) : Type 0 where
   -- one turn
   pub goes-on : (plan : List ℕ) (bound n count : ℕ)
       → obey sheet plan goal bound (suc n) count state
-      ≡ linesBy (nextReply sheet plan state goal) count bound
-      (obey sheet plan goal bound n (count + 1) (obeyed sheet state (nextReply sheet plan state goal)))
+      ≡ linesBy (turnTold (turnReply sheet plan state goal)) count bound
+      (obey sheet plan goal bound n (count + 1) (turnLeaves (turnReply sheet plan state goal) state))

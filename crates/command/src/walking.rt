@@ -1,4 +1,5 @@
 // The walk: planning into the front of a buffer, then turn after turn, each asking for the next command and obeying it.
+use crate::acting::Change;
 use crate::acting::apply;
 use crate::advising::next;
 use crate::method::Advice;
@@ -7,21 +8,30 @@ use plan::making::plan;
 use plan::measure::Length;
 use plan::measure::plan_length;
 use plan::reading::bound;
+use sheet::index::Machine;
 use sheet::refusal::Cause;
 ghost use mathlib.Core.Path.{_≡_};
 ghost use lib.ListN.{length};
 ghost use Prim.Native.Nat.{min};
 ghost use Rattle.common.specs.Reply.{given, outputAfter};
 ghost use Rattle.plan.specs.Planning.{lengthReply, planReply, scratchAfter};
-ghost use Rattle.command.specs.Next.{nextReply};
-ghost use Rattle.command.specs.Advised.{adviceSays};
-ghost use Rattle.command.specs.Walking.{planFront, startReply, startSays, obeyed};
+ghost use Rattle.command.specs.Walk.{obeyReply, turnReply};
+ghost use Rattle.command.specs.Walking.{planFront, startReply, startSays, turnTold, turnLeaves, turnSays};
 
 // How long the plan is and its bound, or the refusal.
 pub enum Start {
     Ready(usize, u64),
     // The cause and its place.
     Stopped(Cause, usize),
+}
+
+// What a turn came to.
+pub enum Turned {
+    Done,
+    // The machine, the command byte, and the move that it was, 255 for none.
+    Sent(Machine, u8, u8),
+    // The cause and its place.
+    Refused(Cause, usize),
 }
 
 // The smaller of two lengths.
@@ -70,17 +80,35 @@ pub fn begin(file: &[u8], buffer: &mut [u8], scratch: &mut [u8]) -> Start
     }
 }
 
-// One turn: asks for the next command, and applies it.
-pub fn turn(file: &[u8], plan: &[u8], state: &mut [u8], goal: &[u8]) -> Advice
-    ensures reply { λ r. ⌜ adviceSays r
-        ≡ nextReply (now (file .entry)) (now (plan .entry)) (now (state .entry)) (now (goal .entry)) ⌝ }
-    ensures left { λ _. ⌜ now (state .exit) ≡ obeyed (now (file .entry)) (now (state .entry))
-        (nextReply (now (file .entry)) (now (plan .entry)) (now (state .entry)) (now (goal .entry))) ⌝ }
+// Obeys a command.
+fn obey(file: &[u8], state: &mut [u8], m: Machine, byte: u8) -> Turned
+    ensures reply { λ r. ⌜ turnSays r ≡ turnTold (obeyReply (now (file .entry)) (now (state .entry)) (m .0) byte) ⌝ }
+    ensures left { λ _. ⌜ now (state .exit)
+        ≡ turnLeaves (obeyReply (now (file .entry)) (now (state .entry)) (m .0) byte) (now (state .entry)) ⌝ }
+{
+    let change = apply(file, state, m, byte);
+    let Change::TurnedDown(cause, place) = change else {
+        let Change::Changed(v) = change else {
+            return Turned::Sent(m, byte, 255);
+        };
+        return Turned::Sent(m, byte, v);
+    };
+    Turned::Refused(cause, place)
+}
+
+// One turn: asks for the next command, and obeys it.
+pub fn turn(file: &[u8], plan: &[u8], state: &mut [u8], goal: &[u8]) -> Turned
+    ensures reply { λ r. ⌜ turnSays r ≡ turnTold
+        (turnReply (now (file .entry)) (now (plan .entry)) (now (state .entry)) (now (goal .entry))) ⌝ }
+    ensures left { λ _. ⌜ now (state .exit) ≡ turnLeaves
+        (turnReply (now (file .entry)) (now (plan .entry)) (now (state .entry)) (now (goal .entry))) (now (state .entry)) ⌝ }
 {
     let advice = next(file, plan, &state[..], goal);
-    let Advice::Send(machine, byte) = advice else {
-        return advice;
+    let Advice::Refused(cause, place) = advice else {
+        let Advice::Send(m, byte) = advice else {
+            return Turned::Done;
+        };
+        return obey(file, state, m, byte);
     };
-    let change = apply(file, state, machine, byte);
-    advice
+    Turned::Refused(cause, place)
 }

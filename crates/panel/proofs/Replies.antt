@@ -3,7 +3,6 @@
 use Prim.Native.Nat.{ℕ, _+_, _*_, _≤_}
 use mathlib.Core.Path.{_≡_, refl, sym, ap, subst, _∙_}
 use mathlib.Core.List.{List}
-use mathlib.Core.Bool.{Bool, cond}
 use native.Mathlib.Omega.{arith}
 use lib.ListN.{length}
 use Rattle.common.specs.Reply.{Reply, given, refused, lengthOf}
@@ -34,12 +33,12 @@ use Rattle.command.specs.declared.method.Advice.the-variants.{Done, Send, Refus
 use Rattle.command.specs.declared.acting.Change.{Change}
 use Rattle.command.specs.declared.acting.Change.the-variants.{Changed, Unchanged, TurnedDown}
 use Rattle.command.specs.Next.{nextReply}
-use Rattle.command.specs.Apply.{Applied, changed, applyReply}
-use Rattle.command.specs.Advised.{adviceSays, changeSays, changeReply}
+use Rattle.command.specs.Apply.{applyReply, effectOf, effectReply}
+use Rattle.command.specs.Advised.{adviceSays, changeSays}
 use Rattle.command.proofs.Near.{next-near, apply-near}
 use Rattle.joining.specs.Join.{joinReply}
 use Rattle.joining.proofs.Near.{join-near}
-use Rattle.panel.specs.Words.{wordOf, sheetReply, doneReply, commandReply, changedReply}
+use Rattle.panel.specs.Words.{wordOf, sheetReply, doneReply, commandReply, moveReply}
 
 -- a reply that is told in part: a refusal is told whole
 refused-told : {A B : Type 0} (f : Reply A → Reply B) (g : A → B) → ((a : A) → f (given a) ≡ given (g a))
@@ -141,30 +140,24 @@ module _ (s plan state goal : List ℕ) (r : Advice) (e : adviceSays r ≡ nextR
     unadvised-near = next-near s plan state goal (sym unadvised)
 
 module _ (s state : List ℕ) (machine byte : ℕ) (r : Change)
-    (e : changeSays r ≡ changeReply (applyReply s state machine byte)) where
-  abbrev changeWord : ℕ
-  changeWord = wordOf (changedReply (applyReply s state machine byte))
+    (e : changeSays r ≡ effectReply (applyReply s state machine byte)) where
+  abbrev moveWord : ℕ
+  moveWord = wordOf (moveReply (effectReply (applyReply s state machine byte)))
 
-  -- the word of a change is 1, and that of none 0
-  bit-word : (b : Bool) → given b ≡ changeSays r → cond b 1 0 ≡ changeWord
-  bit-word b a = go (applyReply s state machine byte) (a ∙ e)
-    where
-      go : (q : Reply Applied) → given b ≡ changeReply q → cond b 1 0 ≡ wordOf (changedReply q)
-      go (given x) h = let same : b ≡ changed x = cc in rw same
-      go (refused number place) h = absurd (given-not-refused h)
+  -- the word of a change holds its move, that of none is 255
+  pub changed-word : (v : ℕ) → r ≡ Changed v → 256 + v ≡ moveWord
+  changed-word v a = ap (λ q. wordOf (moveReply q)) (ap changeSays (sym a) ∙ e)
 
-  pub changed-word : r ≡ Changed → 1 ≡ changeWord
-  changed-word a = bit-word _ (ap changeSays (sym a))
-
-  pub unchanged-word : r ≡ Unchanged → 0 ≡ changeWord
-  unchanged-word a = bit-word _ (ap changeSays (sym a))
+  pub unchanged-word : r ≡ Unchanged → 255 ≡ moveWord
+  unchanged-word a = ap (λ q. wordOf (moveReply q)) (ap changeSays (sym a) ∙ e)
 
   module _ (cause : Cause) (place : ℕ) (a : r ≡ TurnedDown cause place) where
-    unapplied : applyReply s state machine byte ≡ refused (numberOf cause) place
-    unapplied = refused-told changeReply changed (λ x. refl) (λ n p. refl) _ (ap changeSays (sym a) ∙ e)
+    unapplied : refused (numberOf cause) place ≡ effectReply (applyReply s state machine byte)
+    unapplied = ap changeSays (sym a) ∙ e
 
-    pub unapplied-word : 4294967296 * numberOf cause + place ≡ changeWord
-    unapplied-word = rw unapplied
+    pub unapplied-word : 4294967296 * numberOf cause + place ≡ moveWord
+    unapplied-word = ap (λ q. wordOf (moveReply q)) unapplied
 
     pub unapplied-near : place ≤ 6196
-    unapplied-near = apply-near s state machine byte unapplied
+    unapplied-near =
+        apply-near s state machine byte (refused-told effectReply effectOf (λ x. refl) (λ n p. refl) _ unapplied)

@@ -6,7 +6,7 @@ use Rattle.common.specs.Reply.{Reply, given, refused}
 use Rattle.sheet.specs.Model.{machineCount, moveCount}
 use Rattle.sheet.specs.Parse.{Parsed}
 use Rattle.command.specs.Next.{Next, done, command}
-use Rattle.command.specs.Apply.{Applied, changed}
+use Rattle.command.specs.Apply.{Effect}
 
 abbrev pub wordOf : Reply ℕ → ℕ
 wordOf (given value) = value
@@ -28,7 +28,7 @@ commandReply (given done) = given 0
 commandReply (given (command machine byte)) = given (65536 + 256 * machine + byte)
 commandReply (refused number place) = refused number place
 
--- applying: 1 if a machine changed, else 0
-abbrev pub changedReply : Reply Applied → Reply ℕ
-changedReply (given a) = given (cond (changed a) 1 0)
-changedReply (refused number place) = refused number place
+-- applying: 256 + the move if a machine changed, else 255
+abbrev pub moveReply : Reply Effect → Reply ℕ
+moveReply (given e) = given (cond (e .changed) (256 + e .move) 255)
+moveReply (refused number place) = refused number place

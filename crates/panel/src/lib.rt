@@ -15,9 +15,9 @@ ghost use lib.ListN.{length};
 ghost use Rattle.plan.specs.Planning.{lengthReply, planReply, bufferAfter, scratchAfter};
 ghost use Rattle.plan.specs.Measured.{measuredOf};
 ghost use Rattle.command.specs.Next.{nextReply};
-ghost use Rattle.command.specs.Apply.{applyReply, stateAfter};
+ghost use Rattle.command.specs.Apply.{applyReply, effectReply, stateAfter};
 ghost use Rattle.joining.specs.Join.{joinReply};
-ghost use Rattle.panel.specs.Words.{wordOf, sheetReply, doneReply, commandReply, changedReply};
+ghost use Rattle.panel.specs.Words.{wordOf, sheetReply, doneReply, commandReply, moveReply};
 
 // The word of a refusal.
 fn refusal(cause: Cause, place: usize) -> u64
@@ -92,17 +92,18 @@ pub extern "C" fn duty_next(file: &[u8], plan: &[u8], state: &[u8], goal: &[u8])
     }
 }
 
-// Applies a command to a state: 1 if a machine changed, else 0, or the refusal.
+// Applies a command to a state: 256 + the move if a machine changed, else 255, or the refusal.
 #[no_mangle]
 pub extern "C" fn duty_apply(file: &[u8], state: &mut [u8], machine: u8, byte: u8) -> u64
-    ensures reply { λ r. ⌜ r ≡ wordOf (changedReply (applyReply (now (file .entry)) (now (state .entry)) machine byte)) ⌝ }
+    ensures reply { λ r. ⌜ r ≡ wordOf (moveReply (effectReply
+        (applyReply (now (file .entry)) (now (state .entry)) machine byte))) ⌝ }
     ensures left { λ _. ⌜ now (state .exit)
         ≡ stateAfter (applyReply (now (file .entry)) (now (state .entry)) machine byte) (now (state .entry)) ⌝ }
 {
     let change = command::acting::apply(file, state, Machine(machine), byte);
     match change {
-        Change::Changed => 1,
-        Change::Unchanged => 0,
+        Change::Changed(v) => 256 + v as u64,
+        Change::Unchanged => 255,
         Change::TurnedDown(cause, place) => refusal(cause, place),
     }
 }

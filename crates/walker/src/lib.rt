@@ -1,6 +1,6 @@
 // The walk: reads a sheet, a state and a goal, plans, then asks and obeys, and prints a line for each command.
-use command::method::Advice;
 use command::walking::Start;
+use command::walking::Turned;
 use command::walking::begin;
 use command::walking::turn;
 use printer::labelled;
@@ -10,16 +10,17 @@ use printer::text;
 use sheet::index::Machine;
 ghost use Rattle.io.specs.Counts.{Counts};
 
-// A command that was sent.
-fn sent_line(m: Machine, byte: u8) {
+// A command that was sent, and the move that it was.
+fn sent_line(m: Machine, byte: u8, v: u8) {
     labelled(b"", m.0 as u64);
     labelled(b" ", byte as u64);
+    labelled(b" ", v as u64);
     text(b"\n");
 }
 
 // The last line: done with so many commands, or the refusal.
-fn last_line(advice: Advice, count: u64, bound: u64) {
-    let Advice::Refused(cause, place) = advice else {
+fn last_line(turned: Turned, count: u64, bound: u64) {
+    let Turned::Refused(cause, place) = turned else {
         labelled(b"done ", count);
         labelled(b" bound ", bound);
         text(b"\n");
@@ -30,12 +31,12 @@ fn last_line(advice: Advice, count: u64, bound: u64) {
 
 // One turn and its line. Says whether a command was sent.
 fn obeyed(file: &[u8], plan: &[u8], state: &mut [u8], goal: &[u8], count: u64, bound: u64) -> bool {
-    let advice = turn(file, plan, state, goal);
-    let Advice::Send(m, byte) = advice else {
-        last_line(advice, count, bound);
+    let turned = turn(file, plan, state, goal);
+    let Turned::Sent(m, byte, v) = turned else {
+        last_line(turned, count, bound);
         return false;
     };
-    sent_line(m, byte);
+    sent_line(m, byte, v);
     true
 }
 

@@ -1,5 +1,5 @@
 use borrow.Author.Needs.{needs}
-use Rattle.command.proofs.Turns.{turn-stays, turn-sends}
+use Rattle.command.proofs.Turns.{turned-done, turned-down, turned-by, done-left}
 use Rattle.command.proofs.walking.turn.Statement.{statement}
 use Rattle.command.proofs.walking.turn.Tie as tie
 
@@ -9,14 +9,20 @@ next-requires c κs = search needs
 enum-known-advice : tie.Need-enum-known-advice
 enum-known-advice c = search needs
 
+enum-known-advice-2 : tie.Need-enum-known-advice-2
+enum-known-advice-2 c = search needs
+
 same-length : tie.Need-same-length
 same-length c = search needs
 
 returns : tie.Need-returns
-returns c = turn-stays _ _ (c .before .next .result) (c .match .keys2) (c .before .next .ensures)
+returns c =
+    let next = c .before .before .next in
+    turned-done _ _ _ _ (next .result) (next .ensures)
+    (done-left (next .result) (c .before .match .keys2) (c .match2 .keys2))
 
-apply-requires : tie.Need-apply-requires
-apply-requires c κs = search needs
+obey-requires : tie.Need-obey-requires
+obey-requires c κs = search needs
 
 same-length-2 : tie.Need-same-length-2
 same-length-2 c = search needs
@@ -24,8 +30,16 @@ same-length-2 c = search needs
 returns-2 : tie.Need-returns-2
 returns-2 c =
     let at-advice = c .before .before .before .before .before in
-    turn-sends _ _ _ (at-advice .before .before .next .ensures) (at-advice .advice .given .1)
-    (c .before .before .apply .ensures .1)
+    let next = at-advice .before .before .before .next in
+    turned-by _ _ _ _ (next .result) (next .ensures) (at-advice .advice2 .given .1) (c .before .before .obey .ensures)
+
+same-length-3 : tie.Need-same-length-3
+same-length-3 c = search needs
+
+returns-3 : tie.Need-returns-3
+returns-3 c =
+    let next = c .before .before .before .next in
+    turned-down _ _ _ _ (next .result) (next .ensures) (c .before .advice .given .1)
 
 pub turn-spec : {M : Type 1} → statement M
 turn-spec =
@@ -33,8 +47,11 @@ turn-spec =
     (tie.spec
     next-requires
     enum-known-advice
+    enum-known-advice-2
     same-length
     returns
-    apply-requires
+    obey-requires
     same-length-2
-    returns-2)
+    returns-2
+    same-length-3
+    returns-3)
