@@ -1,6 +1,6 @@
 //! The calls asked of both versions, which must reply and write alike.
 
-use crate::command::{Command, Next};
+use crate::command::{Command, Effect, Next};
 use crate::library::Library;
 use crate::version::{Rust, Version};
 use crate::{walk as walks, Reply};
@@ -40,12 +40,12 @@ pub fn next_command(sheet: &[u8], plan: &[u8], state: &[u8], goal: &[u8]) -> Rep
 }
 
 #[track_caller]
-pub fn apply(sheet: &[u8], state: &mut [u8], command: Command) -> Reply<bool> {
+pub fn apply(sheet: &[u8], state: &mut [u8], command: Command) -> Reply<Effect> {
     let mut other = state.to_vec();
     let by_library = Library::apply(sheet, &mut other, command);
     let reply = same(Rust::apply(sheet, state, command), by_library);
     same(&*state, &other);
-    reply.map(|changed| changed == 1)
+    reply.map(Effect::of_value)
 }
 
 #[track_caller]

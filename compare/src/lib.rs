@@ -5,6 +5,7 @@
 pub mod both;
 pub mod calls;
 pub mod command;
+pub mod expected;
 pub mod faults;
 pub mod groups;
 pub mod join;

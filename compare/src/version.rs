@@ -1,7 +1,7 @@
 //! The versions of the planner, with the calls that each of them has. The
 //! values are those of the C interface.
 
-use crate::command::{apply, next_command, Command, Next};
+use crate::command::{apply, next_command, Command, Effect, Next};
 use crate::join::join;
 use crate::plan::{plan, plan_length};
 use crate::sheet::check_sheet;
@@ -22,7 +22,7 @@ pub trait Version {
     /// The next command toward a goal; the value is that of `Next`.
     fn next(sheet: &[u8], plan: &[u8], state: &[u8], goal: &[u8]) -> Reply<u32>;
 
-    /// Applies a command to a state; the value is 1 if a machine changed, else 0.
+    /// Applies a command to a state; the value is that of `Effect`.
     fn apply(sheet: &[u8], state: &mut [u8], command: Command) -> Reply<u32>;
 
     /// Joins goals, each lent after its length, and writes the joined one; the
@@ -53,7 +53,7 @@ impl Version for Rust {
     }
 
     fn apply(sheet: &[u8], state: &mut [u8], command: Command) -> Reply<u32> {
-        apply(sheet, state, command).map(u32::from)
+        apply(sheet, state, command).map(Effect::value)
     }
 
     fn join(sheet: &[u8], wishes: &[u8], out: &mut [u8]) -> Reply<u32> {

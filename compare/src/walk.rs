@@ -1,6 +1,6 @@
 //! The walk: plans a sheet, then obeys its own commands until the goal is met.
 
-use crate::command::Next;
+use crate::command::{Effect, Next};
 use crate::plan::SCRATCH;
 use crate::version::Version;
 use crate::{Refusal, Reply};
@@ -34,10 +34,12 @@ fn obey<V: Version>(sheet: &[u8], state: &mut [u8], goal: &[u8], text: &mut Stri
     let bound = bound_of(&plan);
     let mut count = 0;
     while let Next::Send(command) = Next::of_value(V::next(sheet, &plan, state, goal)?) {
-        V::apply(sheet, state, command)?;
+        let Effect::Move(number) = Effect::of_value(V::apply(sheet, state, command)?) else {
+            panic!("{}: a command that does not act", V::NAME);
+        };
         count += 1;
         assert!(count <= bound, "{}: past the bound", V::NAME);
-        let _ = writeln!(text, "{} {}", command.machine, command.command);
+        let _ = writeln!(text, "{} {} {number}", command.machine, command.command);
     }
     let _ = writeln!(text, "done {count} bound {bound}");
     Ok(())

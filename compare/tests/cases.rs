@@ -2,7 +2,7 @@
 //! groups of 64; then two cooks and one stove.
 
 use duty_compare::both::{apply, join, next_command, own_plan, plan_length, walk};
-use duty_compare::command::{Command, Next};
+use duty_compare::command::{Command, Effect, Next};
 use duty_compare::join::in_one_slice;
 use duty_compare::samples::{blocks, dials, filter, stove, Builder};
 use duty_compare::shape::Plan;
@@ -41,10 +41,12 @@ fn case_2_distance_from_lit_without_fan_is_3() {
     assert_eq!(entry(&stove(), 1, 2, 3), [3, 5]);
 }
 
+/// What the walk of case 3 prints.
+const CASE_3: &str = "0 1 0\n1 1 2\n2 1 4\n0 2 1\ndone 4 bound 7\n";
+
 #[test]
 fn case_3_walk_turns_the_board_off_last() {
-    let printed = walk(&stove(), &[0, 0, 0], &[1, 2, 2]);
-    assert_eq!(printed, "0 1\n1 1\n2 1\n0 2\ndone 4 bound 7\n");
+    assert_eq!(walk(&stove(), &[0, 0, 0], &[1, 2, 2]), CASE_3);
 }
 
 #[test]
@@ -72,7 +74,7 @@ fn case_6_fan_stays_on_while_the_burner_is_lit() {
             command: 2,
         },
     );
-    assert_eq!((reply, state), (Ok(false), [1, 1, 1]));
+    assert_eq!((reply, state), (Ok(Effect::Nothing), [1, 1, 1]));
 }
 
 #[test]
@@ -115,9 +117,27 @@ fn a_command_of_an_absent_machine_changes_nothing() {
             command: 0,
         },
     ] {
-        assert_eq!(apply(&stove(), &mut state, command), Ok(false));
+        assert_eq!(apply(&stove(), &mut state, command), Ok(Effect::Nothing));
     }
     assert_eq!(state, [1, 1, 1]);
+}
+
+#[test]
+fn every_move_of_the_stove_tells_its_number() {
+    // Each machine's command, the state that it acts in, and the one after it.
+    let moves = [
+        ((0, 1), [0, 0, 0], [1, 0, 0]),
+        ((0, 2), [1, 1, 1], [0, 1, 1]),
+        ((1, 1), [1, 0, 0], [1, 1, 0]),
+        ((1, 2), [1, 1, 0], [1, 0, 0]),
+        ((2, 1), [1, 1, 0], [1, 1, 1]),
+        ((2, 2), [1, 0, 1], [1, 0, 0]),
+        ((2, 3), [1, 1, 2], [1, 1, 0]),
+    ];
+    for (number, ((machine, command), mut state, after)) in (0..).zip(moves) {
+        let reply = apply(&stove(), &mut state, Command { machine, command });
+        assert_eq!((reply, state), (Ok(Effect::Move(number)), after));
+    }
 }
 
 /// Joins goals of the stove into a longer buffer, which keeps what it has behind
@@ -134,8 +154,7 @@ fn two_cooks_may_agree_on_the_stove() {
     // The burner is to be lit, and the fan is to be on with the board off.
     let both = joined(&[&[3, 3, 2], &[1, 2]]).expect("a goal");
     assert_eq!(both, [1, 2, 2]);
-    let printed = walk(&stove(), &[0, 0, 0], &both);
-    assert_eq!(printed, "0 1\n1 1\n2 1\n0 2\ndone 4 bound 7\n");
+    assert_eq!(walk(&stove(), &[0, 0, 0], &both), CASE_3);
 }
 
 #[test]

@@ -1,15 +1,14 @@
 //! The example kitchens, in both versions: their bytes, and what is claimed of
 //! them.
 
-use duty_compare::both::{apply, check_sheet, join, next_command, own_plan, walk};
-use duty_compare::command::Next;
+use duty_compare::both::{check_sheet, join, own_plan, walk};
+use duty_compare::expected::{meets, obeyed};
 use duty_compare::join::in_one_slice;
 use duty_compare::random::Random;
 use duty_compare::refuse;
 use duty_compare::samples::stove;
 use duty_compare::shape::Plan;
 use duty_compare::sheet::Sheet;
-use duty_compare::walk::bound_of;
 
 const KITCHEN: &[u8] = include_bytes!("../../examples/kitchen/sheet.bin");
 
@@ -97,18 +96,9 @@ fn random_walks_of_the_kitchen_arrive_within_the_bound() {
     for _ in 0..3000 {
         let mut state: Vec<u8> = (0..20).map(|_| random.below(3) as u8).collect();
         let goal: Vec<u8> = (0..20).map(|_| 1 + random.below(7) as u8).collect();
-        let mut count = 0;
-        while let Next::Send(command) =
-            next_command(KITCHEN, &plan, &state, &goal).expect("attainable")
-        {
-            assert_eq!(apply(KITCHEN, &mut state, command), Ok(true));
-            count += 1;
-            assert!(count <= bound_of(&plan), "{state:?} {goal:?}");
-        }
-        assert!(goal
-            .iter()
-            .zip(&state)
-            .all(|(mask, mode)| mask >> mode & 1 == 1));
+        let count = obeyed(KITCHEN, &plan, &mut state, &goal);
+        assert!(count.is_some(), "not attainable: {state:?} {goal:?}");
+        assert!(meets(&state, &goal), "done too early: {state:?} {goal:?}");
     }
 }
 

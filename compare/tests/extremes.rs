@@ -1,7 +1,8 @@
 //! Sheets at the edges, in both versions: the fullest, the longest plan, and
 //! numbers that pass 32 and 64 bits.
 
-use duty_compare::both::{check_sheet, own_plan, plan_length, walk};
+use duty_compare::both::{apply, check_sheet, own_plan, plan_length, walk};
+use duty_compare::command::{Command, Effect};
 use duty_compare::samples::{
     blocks, circle, dials, fullest, longest_plan, product, snake, Builder,
 };
@@ -19,6 +20,17 @@ fn the_fullest_sheet_has_6196_bytes() {
     assert_eq!(check_sheet(&sheet), Ok(256 * 250 + 32));
     assert_eq!(check_sheet(&[&sheet[..], &[0]].concat()), refuse(3, 6196));
     assert_eq!(check_sheet(&sheet[..6195]), refuse(1, 6192));
+}
+
+#[test]
+fn the_last_move_of_the_fullest_sheet_is_249() {
+    let mut state = [7; 32];
+    let command = Command {
+        machine: 25,
+        command: 50,
+    };
+    let reply = apply(&fullest(), &mut state, command);
+    assert_eq!((reply, state[25]), (Ok(Effect::Move(249)), 0));
 }
 
 #[test]

@@ -2,6 +2,7 @@
 //! for more random rounds than usual, DUTY_SEED for others.
 
 use duty_compare::calls::{Call, Lent, Slot, CALLS};
+use duty_compare::command::Effect;
 use duty_compare::faults::faulty_sheets;
 use duty_compare::random::{lent, sheet_bytes, Random};
 use duty_compare::samples::{
@@ -10,6 +11,7 @@ use duty_compare::samples::{
 use duty_compare::shape::Plan;
 use duty_compare::sheet::Sheet;
 use duty_compare::{refuse, Reply};
+use std::collections::BTreeMap;
 use std::fmt::{Display, Formatter};
 use std::hint::black_box;
 use std::io::Write;
@@ -116,8 +118,9 @@ struct Tally {
     written: u64,
     done: u64,
     commands: u64,
-    changed: u64,
     unchanged: u64,
+    /// Applied commands by the number of their move.
+    moves: BTreeMap<u8, u64>,
     joined: [u64; 6],
 }
 
@@ -131,17 +134,21 @@ impl Tally {
         self.written += plan.is_ok() as u64;
         self.done += (next == Ok(0)) as u64;
         self.commands += next.is_ok_and(|value| value > 0) as u64;
-        self.changed += (apply == Ok(1)) as u64;
-        self.unchanged += (apply == Ok(0)) as u64;
+        match apply.map(Effect::of_value) {
+            Ok(Effect::Nothing) => self.unchanged += 1,
+            Ok(Effect::Move(number)) => *self.moves.entry(number).or_default() += 1,
+            Err(_) => {}
+        }
         if let Some(reply) = joined(join) {
             self.joined[reply] += 1;
         }
     }
 
-    /// How often the least frequent came up.
+    /// How often the least frequent came up; of the moves, the first eight count.
     fn least(&self) -> Option<u64> {
         let others = [self.unfit, self.written, self.done, self.commands];
-        let applied = [self.changed, self.unchanged];
+        let times = |number| self.moves.get(&number).copied().unwrap_or(0);
+        let applied: Vec<u64> = (0..8).map(times).chain([self.unchanged]).collect();
         let all = [&self.refused[1..], &others, &applied, &self.joined].concat();
         all.into_iter().min()
     }
@@ -152,14 +159,15 @@ impl Display for Tally {
         write!(
             out,
             "refused 1 to 19: {:?}, 15 for an entry: {}, plans written: {}, done: {}, \
-             commands: {}, changed: {}, unchanged: {}, joining (empty, other, \
+             commands: {}, changed: {} by {} moves, unchanged: {}, joining (empty, other, \
              14 for a length, 14 at a machine, 19, 12): {:?}",
             &self.refused[1..],
             self.unfit,
             self.written,
             self.done,
             self.commands,
-            self.changed,
+            self.moves.values().sum::<u64>(),
+            self.moves.len(),
             self.unchanged,
             self.joined
         )

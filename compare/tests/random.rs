@@ -1,9 +1,11 @@
 //! The Rust version by itself on random rounds of every call.
 
 use duty_compare::calls::CALLS;
+use duty_compare::command::{apply, Effect};
+use duty_compare::expected::{effect, meets};
 use duty_compare::join::{in_one_slice, join};
 use duty_compare::random::{goals, lent, sheet, Random};
-use duty_compare::sheet::{Sheet, MAX_MACHINES};
+use duty_compare::sheet::{Sheet, MAX_MACHINES, MAX_MOVES};
 
 /// Also shows that the rounds try every refusal there is.
 #[test]
@@ -73,10 +75,27 @@ fn accepted_calls_write_where_they_should() {
     }
 }
 
-fn meets(state: &[u8], goal: &[u8]) -> bool {
-    goal.iter()
-        .zip(state)
-        .all(|(mask, mode)| mask >> mode & 1 == 1)
+/// Also shows that the rounds make moves of many numbers, and none.
+#[test]
+fn applied_commands_are_the_move_that_acts() {
+    let (mut nothing, mut moves) = (0, [0; MAX_MOVES]);
+    for seed in 0..20_000 {
+        let input = lent(&mut Random::new(seed));
+        let mut state = input.state.get().to_vec();
+        let Ok(applied) = apply(input.sheet.get(), &mut state, input.command) else {
+            continue;
+        };
+        let expected = effect(input.sheet.get(), input.state.get(), input.command);
+        assert_eq!((applied, state), expected, "seed {seed}");
+        match applied {
+            Effect::Nothing => nothing += 1,
+            Effect::Move(number) => moves[number as usize] += 1,
+        }
+    }
+    let seldom: Vec<_> = (0..8).filter(|&number| moves[number] < 20).collect();
+    assert_eq!(seldom, [], "moves seldom or never made: {moves:?}");
+    let different = moves.iter().filter(|&&times| times > 0).count();
+    assert!(different > 100 && nothing > 1000, "{different} {nothing}");
 }
 
 #[test]

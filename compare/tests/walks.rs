@@ -1,33 +1,16 @@
 //! Random sheets walked in both versions: an attainable goal is reached within
-//! the bound. Then the walks of `examples/walks`, in the Rust version: the
-//! program's own are compared by `run.sh`.
+//! the bound, and each command is the move that acts. Then the walks of
+//! `examples/walks`, in the Rust version: the program's own are compared by
+//! `run.sh`.
 
-use duty_compare::both::{apply, next_command, own_plan};
-use duty_compare::command::Next;
+use duty_compare::both::own_plan;
+use duty_compare::expected::{meets, obeyed};
 use duty_compare::random::{goal, sheet, state, Random};
 use duty_compare::sheet::Sheet;
 use duty_compare::version::Rust;
-use duty_compare::walk::{bound_of, walk};
+use duty_compare::walk::walk;
 use std::fs;
 use std::path::Path;
-
-/// Obeys a plan until it is done; how many commands that took, or none where
-/// the first reply is a refusal.
-fn obeyed(sheet: &[u8], plan: &[u8], state: &mut [u8], goal: &[u8]) -> Option<u32> {
-    let mut next = next_command(sheet, plan, state, goal).ok()?;
-    let mut count = 0;
-    while let Next::Send(command) = next {
-        assert_eq!(
-            apply(sheet, state, command),
-            Ok(true),
-            "a command that does not act"
-        );
-        count += 1;
-        assert!(count <= bound_of(plan), "past the bound");
-        next = next_command(sheet, plan, state, goal).expect("attainable goals stay so");
-    }
-    Some(count)
-}
 
 #[test]
 fn attainable_goals_are_reached_within_the_bound() {
@@ -42,11 +25,7 @@ fn attainable_goals_are_reached_within_the_bound() {
             let Some(count) = obeyed(&bytes, &plan, &mut state, &goal) else {
                 continue;
             };
-            let met = goal
-                .iter()
-                .zip(&state)
-                .all(|(mask, mode)| mask >> mode & 1 == 1);
-            assert!(met, "seed {seed}: done too early");
+            assert!(meets(&state, &goal), "seed {seed}: done too early");
             walked += (count > 0) as u32;
         }
     }

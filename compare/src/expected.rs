@@ -1,0 +1,70 @@
+//! What is expected of commands and goals, straight from the lent bytes. The
+//! tests hold the versions against it.
+
+use crate::both::{apply, next_command};
+use crate::command::{Command, Effect, Next};
+use crate::records::Records;
+use crate::walk::bound_of;
+
+/// Whether a state meets a goal.
+pub fn meets(state: &[u8], goal: &[u8]) -> bool {
+    goal.iter()
+        .zip(state)
+        .all(|(mask, mode)| mask >> mode & 1 == 1)
+}
+
+/// The bodies of a sheet's moves, in their order.
+fn moves(sheet: &[u8]) -> impl Iterator<Item = &[u8]> {
+    let mut records = Records::new(sheet);
+    let records = std::iter::from_fn(move || records.take());
+    records
+        .filter(|record| record.kind == 2)
+        .map(|record| record.body)
+}
+
+/// Whether a move is of a command's machine and byte, from the mode that the
+/// machine is in, and the state meets all of its guards.
+fn acts(body: &[u8], state: &[u8], command: Command) -> bool {
+    let mode = |machine: u8| state[machine as usize];
+    [body[0], body[3]] == [command.machine, command.command]
+        && body[1] == mode(body[0])
+        && body[4..]
+            .chunks(2)
+            .all(|guard| guard[1] >> mode(guard[0]) & 1 == 1)
+}
+
+/// What a command does to a state that fits its sheet, by the one move that
+/// acts, if there is one; and the state after it.
+pub fn effect(sheet: &[u8], state: &[u8], command: Command) -> (Effect, Vec<u8>) {
+    let numbered = (0..).zip(moves(sheet));
+    let acting: Vec<_> = numbered
+        .filter(|(_, body)| acts(body, state, command))
+        .collect();
+    let mut after = state.to_vec();
+    match acting[..] {
+        [] => (Effect::Nothing, after),
+        [(number, body)] => {
+            after[body[0] as usize] = body[2];
+            (Effect::Move(number), after)
+        }
+        _ => panic!("{} moves act at once", acting.len()),
+    }
+}
+
+/// Obeys a plan in both versions until it is done, where each command must be
+/// the move that acts; how many commands that took, or none where the first
+/// reply is a refusal.
+pub fn obeyed(sheet: &[u8], plan: &[u8], state: &mut [u8], goal: &[u8]) -> Option<u32> {
+    let mut next = next_command(sheet, plan, state, goal).ok()?;
+    let mut count = 0;
+    while let Next::Send(command) = next {
+        let (effect, after) = effect(sheet, state, command);
+        assert_ne!(effect, Effect::Nothing, "a command that does not act");
+        assert_eq!(apply(sheet, state, command), Ok(effect));
+        assert_eq!(*state, after, "after {command:?}");
+        count += 1;
+        assert!(count <= bound_of(plan), "past the bound");
+        next = next_command(sheet, plan, state, goal).expect("attainable goals stay so");
+    }
+    Some(count)
+}
