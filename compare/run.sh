@@ -102,6 +102,19 @@ panel_checks() {
     done
 }
 
+# Compiles the C example with an applying that changes nothing in place of the
+# library's.
+build_unmoved() {
+    echo 'unsigned long long __wrap_duty_apply(void) { return 255; }' >"$work/unmoved.c"
+    build_panel panel-unmoved "$work/unmoved.c" -Wl,--wrap=duty_apply
+}
+
+# The C example stops at a command that changes nothing, and says so.
+unmoved_stops() {
+    panel_says panel-unmoved unmoved examples/stove &&
+        diff <(echo "panel: machine 0: command 1 changed nothing") "$work/panel.err"
+}
+
 # Compiles a file that has nothing but the header: compiler, language, standard.
 header_compiles() {
     echo '#include "duty.h"' |
@@ -235,6 +248,8 @@ panel_checks panel
 check "panel compiles with sanitizers" build_panel panel-sanitized -g \
     -fsanitize=address,undefined -fno-sanitize-recover
 panel_checks panel-sanitized
+check "panel compiles with an applying that changes nothing" build_unmoved
+check "panel stops where a command changes nothing" unmoved_stops
 check "examples/make.py writes the committed bytes" python3 examples/make.py --check
 
 echo "$passed passed, $failed failed"

@@ -9,7 +9,8 @@
  * The folder holds sheet.bin, state.bin and wish.bin; a missing file counts as
  * empty. Seven more cooks may have their wishes there, wish2.bin to wish8.bin:
  * where there is one of these, all are joined into one wish. The exit status is
- * 0 for done, 1 for a refusal, 2 where the panel could not work.
+ * 0 for done, 1 for a refusal, 2 where the panel could not work or a command
+ * changed nothing.
  */
 #include <errno.h>
 #include <stdbool.h>
@@ -36,6 +37,13 @@ struct kitchen {
 static void stop(const char *what)
 {
     fprintf(stderr, "panel: %s: %s\n", what, strerror(errno));
+    exit(COULD_NOT_WORK);
+}
+
+/* Stops where a command changed nothing: to send it again would not help. */
+static void stop_unmoved(uint8_t machine, uint8_t command)
+{
+    fprintf(stderr, "panel: machine %u: command %u changed nothing\n", machine, command);
     exit(COULD_NOT_WORK);
 }
 
@@ -243,14 +251,20 @@ static uint64_t ask(const struct kitchen *k)
                      k->state.at, k->state.n, k->wish.at, k->wish.n);
 }
 
-/* Says a command and makes it happen. A panel on the wall would send it to the
- * machine and read the state anew. */
+/* Makes a command happen and says which move it was. A panel on the wall would
+ * send it to the machine and read the state anew. The commands of a sheet's own
+ * plan always move a machine. */
 static bool obey(struct kitchen *k, uint32_t value)
 {
     uint8_t machine = (uint8_t)(value / 256), command = (uint8_t)value;
-    printf("machine %u: command %u\n", machine, command);
-    return !refused(duty_apply(k->sheet.at, k->sheet.n, k->state.at, k->state.n,
-                               machine, command));
+    uint64_t reply = duty_apply(k->sheet.at, k->sheet.n, k->state.at, k->state.n,
+                                machine, command);
+    if (refused(reply))
+        return false;
+    if (duty_move(reply) == DUTY_NO_MOVE)
+        stop_unmoved(machine, command);
+    printf("machine %u: command %u, move %u\n", machine, command, duty_move(reply));
+    return true;
 }
 
 static void say_done(const struct kitchen *k, unsigned count)

@@ -41,11 +41,17 @@ extern "C" {
 /* The most wishes that are joined. */
 #define DUTY_WISHES_MAX 8
 
+/* Stands for the number of a move where a command changes nothing. */
+#define DUTY_NO_MOVE 255
+
 /* The refusal's number, 0 if there is none. */
 static inline uint32_t duty_refusal(uint64_t reply) { return (uint32_t)(reply >> 32); }
 
 /* The place of a refusal, or the value of an accepted call. */
 static inline uint32_t duty_value(uint64_t reply) { return (uint32_t)reply; }
+
+/* The move of an accepted duty_apply: its number, or DUTY_NO_MOVE. */
+static inline uint8_t duty_move(uint64_t reply) { return (uint8_t)duty_value(reply); }
 
 /* Checks a sheet (refusals 1 to 8). Value: 256 * moves + machines. */
 uint64_t duty_sheet(const uint8_t *sheet, size_t n);
@@ -66,7 +72,9 @@ uint64_t duty_next(const uint8_t *sheet, size_t n, const uint8_t *plan, size_t p
                    const uint8_t *state, size_t state_n, const uint8_t *wish, size_t wish_n);
 
 /* Applies a command (refusals 1 to 8, 13): the new mode of a machine that
- * changes is written into the lent state. Value: 1 if a machine changed, else 0. */
+ * changes is written into the lent state. Value: 256 + move if a machine changed,
+ * else DUTY_NO_MOVE; duty_move takes the move out of it. Moves are numbered from
+ * 0 in the sheet's order. */
 uint64_t duty_apply(const uint8_t *sheet, size_t n, uint8_t *state, size_t state_n,
                     uint8_t machine, uint8_t command);
 

@@ -1,13 +1,15 @@
 //! The C header, the declarations of this package and the exports of the proved
 //! source must name the same functions with the same parameters in the same
-//! order; and the header's largest sizes must be the largest.
+//! order; the header's largest sizes must be the largest, and its sign for no
+//! move must be that of applying.
 
 use duty_compare::both::{check_sheet, join, next_command, plan_length};
-use duty_compare::command::Next;
+use duty_compare::command::{Effect, Next};
 use duty_compare::join::in_one_slice;
 use duty_compare::plan::SCRATCH;
 use duty_compare::refuse;
 use duty_compare::samples::{fullest, longest_plan, Builder};
+use duty_compare::sheet::MAX_MOVES;
 use std::collections::BTreeMap;
 
 const SOURCE: &str = include_str!("../../crates/panel/src/lib.rt");
@@ -233,6 +235,13 @@ fn the_largest_sizes_are_the_largest() {
     let longest = constant("DUTY_PLAN_MAX");
     assert_eq!(plan_length(&longest_plan()), Ok(longest));
     assert_eq!(SCRATCH, constant("DUTY_SCRATCH"));
+}
+
+#[test]
+fn a_command_that_changes_nothing_has_the_sign_for_no_move() {
+    let sign = constant("DUTY_NO_MOVE");
+    assert_eq!(Effect::Nothing.value() as usize, sign);
+    assert!(sign >= MAX_MOVES, "{sign} may be a move");
 }
 
 /// 32 machines of eight modes in pairs, each pair a group of 64.
