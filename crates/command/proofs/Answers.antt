@@ -7,6 +7,7 @@ use mathlib.Core.List.{List}
 use mathlib.Core.Bool.{true}
 use native.Mathlib.Nat.{le-refl}
 use native.Mathlib.Omega.{arith}
+use borrow.Author.Tests.{lt-ltb}
 use Rattle.common.specs.Reply.{given, clear}
 use Rattle.common.proofs.Bools.{true-false}
 use Rattle.common.proofs.Clear.{each-clear}
@@ -21,7 +22,7 @@ use Rattle.command.specs.Attainable.{attainFaults}
 use Rattle.command.specs.Covered.{Covered}
 use Rattle.command.specs.Next.{done, command, fulfil, goalRefusals}
 use Rattle.command.specs.Method.{entryMove, PicksFor}
-use Rattle.command.specs.Apply.{Answers, applyReply}
+use Rattle.command.specs.Apply.{Answers, applyReply, effectReply}
 use Rattle.command.specs.Run.{Lent, askReply, some, Situation, begins}
 use Rattle.command.specs.Arrival.{Reached, Asked, Moved}
 use Rattle.command.proofs.Facts
@@ -189,4 +190,8 @@ module _ {lent : Lent} {d : Parsed} {Usable : ℕ → Type 0} {longest cost : �
               mode-there (s .state) i _
               (omega (arith, p .machine-is, kept .sound .long, ground .valid .moves-valid (p .move) here .present));
           differs = ground .valid .moves-valid (p .move) here .moves-on;
+          tells =
+              ap effectReply (applies-pending p)
+              ∙ ap (λ b. given (record { changed = b; move = p .move }))
+              (lt-ltb (p .move) 255 (omega (arith, here, ground .valid .few-moves)));
         }

@@ -22,7 +22,7 @@ use Rattle.command.specs.Goal.{Masks, met}
 use Rattle.command.specs.Attainable.{groups}
 use Rattle.command.specs.Next.{Next, done, command, targetOf, holdsOutside, unfit, prepareBy, followBy, fulfil}
 use Rattle.command.specs.Apply.{Answers}
-use Rattle.command.specs.Method.{Pick, nothing, misfit, entryMove, pickReply}
+use Rattle.command.specs.Method.{Pick, noneUnmet, unfitEntry, entryMove, pickReply}
 use Rattle.command.specs.Method.{HighestUnmet, Target, entryToward, moveToward, Fit, MethodFollowed}
 use Rattle.command.specs.Method.{Picks, nothing-unmet, unfit as held-up, sends, prepares}
 use Rattle.command.proofs.Following
@@ -113,7 +113,7 @@ module _ (m : Model) (plan state : List ℕ) where
 
   module _ (valid : Valid m) (shaped : wellShaped m plan ≡ true) where
     picks-some : (n : ℕ) (masks : Masks) → LeavesModes m masks → (p : Pick) × Picks m plan state masks n p
-    picks-some zero masks leaves = (nothing, nothing-unmet (λ k h. absurd (not-suc-le-zero h)))
+    picks-some zero masks leaves = (noneUnmet, nothing-unmet (λ k h. absurd (not-suc-le-zero h)))
     picks-some (suc k) masks leaves =
         by-cases (met (groups m plan) masks state k)
         (λ e. let r = picks-some k masks leaves in (r .0, lifted e (r .1)))
@@ -124,7 +124,7 @@ module _ (m : Model) (plan state : List ℕ) where
         let t = target-right m plan state masks k (some .1) (some .2) in
         by-cases (unfit m plan state k (entryToward m plan state k q))
         (λ u.
-        (misfit, held-up k q h t (λ f. true-false u (fit-test m plan state k f))))
+        (unfitEntry, held-up k q h t (λ f. true-false u (fit-test m plan state k f))))
         (λ u.
         let f = test-fit m plan state k u in
         let v = moveToward m plan state k q in
@@ -137,8 +137,8 @@ module _ (m : Model) (plan state : List ℕ) where
 
   -- a move that is picked answers its command
   abbrev OwnAnswers : Pick → Type 0
-  OwnAnswers nothing = Unit {0}
-  OwnAnswers misfit = Unit {0}
+  OwnAnswers noneUnmet = Unit {0}
+  OwnAnswers unfitEntry = Unit {0}
   OwnAnswers (entryMove v) = Answers m state (moveAt m v .machine) (moveAt m v .command) v
 
   pub picked-answers : {masks : Masks} {n : ℕ} {p : Pick} → Picks m plan state masks n p → OwnAnswers p
@@ -158,14 +158,14 @@ module _ (m : Model) (plan state : List ℕ) where
   module _ (valid : Valid m) where
     -- and no other pick has the same reply
     same-reply : (p q : Pick) → OwnAnswers p → OwnAnswers q → pickReply m p ≡ pickReply m q → p ≡ q
-    same-reply nothing nothing a b e = refl
-    same-reply nothing misfit a b e = absurd (given-not-refused e)
-    same-reply nothing (entryMove w) a b e = absurd (done-not-command e)
-    same-reply misfit nothing a b e = absurd (given-not-refused (sym e))
-    same-reply misfit misfit a b e = refl
-    same-reply misfit (entryMove w) a b e = absurd (given-not-refused (sym e))
-    same-reply (entryMove v) nothing a b e = absurd (done-not-command (sym e))
-    same-reply (entryMove v) misfit a b e = absurd (given-not-refused e)
+    same-reply noneUnmet noneUnmet a b e = refl
+    same-reply noneUnmet unfitEntry a b e = absurd (given-not-refused e)
+    same-reply noneUnmet (entryMove w) a b e = absurd (done-not-command e)
+    same-reply unfitEntry noneUnmet a b e = absurd (given-not-refused (sym e))
+    same-reply unfitEntry unfitEntry a b e = refl
+    same-reply unfitEntry (entryMove w) a b e = absurd (given-not-refused (sym e))
+    same-reply (entryMove v) noneUnmet a b e = absurd (done-not-command (sym e))
+    same-reply (entryMove v) unfitEntry a b e = absurd (given-not-refused e)
     same-reply (entryMove v) (entryMove w) a b e =
         let machine : moveAt m w .machine ≡ moveAt m v .machine = cc in
         let byte : moveAt m w .command ≡ moveAt m v .command = cc in

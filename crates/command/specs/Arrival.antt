@@ -15,7 +15,7 @@ use Rattle.command.specs.State.{modeOf, withMode}
 use Rattle.command.specs.Meaning.{MachineMeets}
 use Rattle.command.specs.Next.{Next, done, command, goalRefusals}
 use Rattle.command.specs.Method.{entryMove, PicksFor}
-use Rattle.command.specs.Apply.{Answers, applyReply}
+use Rattle.command.specs.Apply.{Answers, applyReply, effectReply}
 use Rattle.command.specs.Run.{Lent, askReply, Call, ask, apply, some, Situation, begins, afterAll, Run}
 
 module _ (lent : Lent) (m : Model) where
@@ -49,17 +49,19 @@ module _ (lent : Lent) (m : Model) where
     pub byte : ℕ
     pub pends : s .pending ≡ some machine byte
     pub asked : askReply lent (s .state) ≡ given (command machine byte)
-    -- the move that acts: the one that the entry named by which the command was given
+    -- the move that acts: the one named by the entry that the command was given by
     pub move : ℕ
     pub named : PicksFor m (lent .plan) (s .state) (lent .goal) (entryMove move)
     pub present : move < moveCount m
     pub its-own : moveAt m move .machine ≡ machine
-    -- applying is not refused and tells that move, and the machine has moved: from its from mode to its to mode, which differs
+    -- applying is not refused, and the machine has moved: from the move's from mode to its to mode, which differs
     pub applies : applyReply (lent .sheet) (s .state) machine byte
         ≡ given (record { move = move; state = withMode (s .state) machine (moveAt m move .to) })
     pub was : modeOf (s .state) machine ≡ moveAt m move .from
     pub is-now : modeOf (withMode (s .state) machine (moveAt m move .to)) machine ≡ moveAt m move .to
     pub differs : moveAt m move .from ≡ moveAt m move .to → ⊥
+    -- and that move is told
+    pub tells : effectReply (applyReply (lent .sheet) (s .state) machine byte) ≡ given (record { changed = true; move = move })
 
   -- the promise about a list of calls from a situation
   pub record Promise (start : Situation) (calls : List Call) : Type 0 where

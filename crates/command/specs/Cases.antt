@@ -129,8 +129,9 @@ cases =
     ∷ follows lone otherPlan (0 ∷ []) [] (given done)
     -- a command whose need fails changes nothing
     ∷ applies stove (0 ∷ 0 ∷ 0 ∷ []) 1 1 (given (record { move = 255; state = 0 ∷ 0 ∷ 0 ∷ [] }))
-    -- a command that acts; an absent machine or command 0 changes nothing
+    -- commands that act; an absent machine or command 0 changes nothing
     ∷ applies stove off 0 1 (given (record { move = 0; state = 1 ∷ 0 ∷ 0 ∷ [] }))
+    ∷ applies stove (1 ∷ 1 ∷ 2 ∷ []) 2 3 (given (record { move = 6; state = 1 ∷ 1 ∷ 0 ∷ [] }))
     ∷ applies stove off 3 1 (given (record { move = 255; state = off }))
     ∷ applies stove off 0 0 (given (record { move = 255; state = off }))
     -- a short goal: what it does not reach is free
@@ -224,5 +225,5 @@ cases-hold =
     ⊗ refl ⊗ refl ⊗ refl ⊗ refl ⊗ refl ⊗ refl ⊗ refl ⊗ refl ⊗ refl ⊗ refl ⊗ refl ⊗ refl ⊗ refl ⊗ refl ⊗ refl ⊗ refl
     ⊗ refl ⊗ refl ⊗ refl ⊗ refl ⊗ refl ⊗ refl ⊗ refl ⊗ refl ⊗ refl ⊗ refl ⊗ refl ⊗ refl ⊗ refl ⊗ refl ⊗ refl ⊗ refl
     ⊗ refl ⊗ refl ⊗ refl ⊗ refl ⊗ refl ⊗ refl ⊗ refl ⊗ refl ⊗ refl ⊗ refl ⊗ refl ⊗ refl ⊗ refl ⊗ refl ⊗ refl ⊗ refl
-    ⊗ refl ⊗ refl ⊗ refl ⊗ refl ⊗ refl ⊗ refl ⊗ refl ⊗ refl ⊗ refl
+    ⊗ refl ⊗ refl ⊗ refl ⊗ refl ⊗ refl ⊗ refl ⊗ refl ⊗ refl ⊗ refl ⊗ refl
     ⊗ (refl, refl, refl, tt ⊗ tt ⊗ tt ⊗ tt ⊗ tt ⊗ tt ⊗ tt ⊗ tt ⊗ tt ⊗ tt ⊗ tt ⊗ tt ⊗ tt ⊗ tt ⊗ tt, refl) ⊗ tt

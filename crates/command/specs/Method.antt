@@ -20,14 +20,14 @@ use Rattle.command.specs.Apply.{Answers}
 
 -- what the method comes to: nothing is unmet, an entry is unfit, or an entry's move is sent
 pub data Pick : Type 0 where
-  nothing : Pick
-  misfit : Pick
+  noneUnmet : Pick
+  unfitEntry : Pick
   entryMove : ℕ → Pick
 
 -- what is replied then
 abbrev pub pickReply : Model → Pick → Reply Next
-pickReply m nothing = given done
-pickReply m misfit = refused 15 0
+pickReply m noneUnmet = given done
+pickReply m unfitEntry = refused 15 0
 pickReply m (entryMove v) = given (command (moveAt m v .machine) (moveAt m v .command))
 
 module _ (m : Model) (plan state : List ℕ) where
@@ -78,9 +78,9 @@ module _ (m : Model) (plan state : List ℕ) where
   -- what the method picks for a goal on the groups below n
   pub data Picks : Masks → ℕ → Pick → Type 0 where
     nothing-unmet : {masks : Masks} {n : ℕ} → ((k : ℕ) → k < n → met (groups m plan) masks state k ≡ true)
-        → Picks masks n nothing
+        → Picks masks n noneUnmet
     unfit : {masks : Masks} {n : ℕ} (k q : ℕ) → HighestUnmet masks n k → Target masks k q
-        → (Fit k (entryToward k q) → ⊥) → Picks masks n misfit
+        → (Fit k (entryToward k q) → ⊥) → Picks masks n unfitEntry
     sends : {masks : Masks} {n : ℕ} (k q : ℕ) → HighestUnmet masks n k → Target masks k q
         → Fit k (entryToward k q) → Ready k (moveToward k q)
         → Picks masks n (entryMove (entryToward k q .move))

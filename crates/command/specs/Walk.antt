@@ -19,7 +19,7 @@ pub data Turn (A : Type 0) : Type 0 where
   over : Turn A
   obeyed : ℕ → ℕ → A → Turn A
 
--- obeys a command
+-- applies a command that was given
 unfoldable pub obeyReply : List ℕ → List ℕ → ℕ → ℕ → Reply (Turn Applied)
 obeyReply sheet state i c = andThen (applyReply sheet state i c) (λ a. given (obeyed i c a))
 
