@@ -17,6 +17,6 @@ adviceSays (Refused cause place) = refused (numberOf cause) place
 
 -- applying a command: whether a machine changed, by which move, or the refusal
 abbrev pub changeSays : Change → Reply Effect
-changeSays (Changed move) = given (record { changed = true; move = move })
+changeSays (Changed move) = given (record { changed = true; move = move .0 })
 changeSays Unchanged = given (record { changed = false; move = 255 })
 changeSays (TurnedDown cause place) = refused (numberOf cause) place

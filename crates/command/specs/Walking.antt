@@ -51,7 +51,7 @@ turnLeaves (refused number place) state = state
 -- what the code's answer says
 abbrev pub turnSays : Turned → Reply (Turn ℕ)
 turnSays Done = given over
-turnSays (Sent machine byte move) = given (obeyed (machine .0) byte move)
+turnSays (Sent machine byte move) = given (obeyed (machine .0) byte (move .0))
 turnSays (Refused cause place) = refused (numberOf cause) place
 
 -- the line of a turn, and those that come later if it sends a command

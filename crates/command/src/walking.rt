@@ -9,6 +9,7 @@ use plan::measure::Length;
 use plan::measure::plan_length;
 use plan::reading::bound;
 use sheet::index::Machine;
+use sheet::index::Move;
 use sheet::refusal::Cause;
 ghost use mathlib.Core.Path.{_≡_};
 ghost use lib.ListN.{length};
@@ -29,7 +30,7 @@ pub enum Start {
 pub enum Turned {
     Done,
     // The machine, the command byte, and the move that it was, 255 for none.
-    Sent(Machine, u8, u8),
+    Sent(Machine, u8, Move),
     // The cause and its place.
     Refused(Cause, usize),
 }
@@ -89,7 +90,7 @@ fn obey(file: &[u8], state: &mut [u8], m: Machine, byte: u8) -> Turned
     let change = apply(file, state, m, byte);
     let Change::TurnedDown(cause, place) = change else {
         let Change::Changed(v) = change else {
-            return Turned::Sent(m, byte, 255);
+            return Turned::Sent(m, byte, Move(255));
         };
         return Turned::Sent(m, byte, v);
     };

@@ -10,6 +10,7 @@ use Rattle.common.proofs.Reply.{given-not-refused}
 use Rattle.sheet.specs.declared.index.Sheet.{Sheet}
 use Rattle.sheet.specs.declared.index.Reading.{Reading}
 use Rattle.sheet.specs.declared.index.Machine.{Machine}
+use Rattle.sheet.specs.declared.index.Move.{Move}
 use Rattle.sheet.specs.declared.refusal.Cause.{Cause}
 use Rattle.sheet.specs.declared.refusal.Verdict.the-variants.{Accepted, Refused as Turned}
 use Rattle.sheet.specs.Refusal.{numberOf}
@@ -145,7 +146,7 @@ module _ (s state : List ℕ) (machine byte : ℕ) (r : Change)
   moveWord = wordOf (moveReply (effectReply (applyReply s state machine byte)))
 
   -- the word of a change holds its move, that of none is 255
-  pub changed-word : (v : ℕ) → r ≡ Changed v → 256 + v ≡ moveWord
+  pub changed-word : (v : Move) → r ≡ Changed v → 256 + v .0 ≡ moveWord
   changed-word v a = ap (λ q. wordOf (moveReply q)) (ap changeSays (sym a) ∙ e)
 
   pub unchanged-word : r ≡ Unchanged → 255 ≡ moveWord

@@ -102,7 +102,7 @@ pub extern "C" fn duty_apply(file: &[u8], state: &mut [u8], machine: u8, byte: u
 {
     let change = command::acting::apply(file, state, Machine(machine), byte);
     match change {
-        Change::Changed(v) => 256 + v as u64,
+        Change::Changed(v) => 256 + v.0 as u64,
         Change::Unchanged => 255,
         Change::TurnedDown(cause, place) => refusal(cause, place),
     }

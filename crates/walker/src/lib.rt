@@ -8,13 +8,14 @@ use printer::load;
 use printer::refusal_line;
 use printer::text;
 use sheet::index::Machine;
+use sheet::index::Move;
 ghost use Rattle.io.specs.Counts.{Counts};
 
 // A command that was sent, and the move that it was.
-fn sent_line(m: Machine, byte: u8, v: u8) {
+fn sent_line(m: Machine, byte: u8, v: Move) {
     labelled(b"", m.0 as u64);
     labelled(b" ", byte as u64);
-    labelled(b" ", v as u64);
+    labelled(b" ", v.0 as u64);
     text(b"\n");
 }
 

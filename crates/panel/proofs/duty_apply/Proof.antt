@@ -31,8 +31,8 @@ same-length c = search needs
 
 returns : tie.Need-returns
 returns c =
-    let p = c .before .before .before .before .before .apply .ensures in
-    (changed-word _ _ _ _ _ (p .0) _ (c .before .change .given .1), p .1)
+    let p = c .before .before .before .before .before .before .apply .ensures in
+    (changed-word _ _ _ _ _ (p .0) _ (c .before .before .change .given .1), p .1)
 
 same-length-2 : tie.Need-same-length-2
 same-length-2 c = search needs
