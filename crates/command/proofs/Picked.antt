@@ -123,8 +123,7 @@ module _ (m : Model) (plan state : List ℕ) where
         let h = highest masks k unmet in
         let t = target-right m plan state masks k (some .1) (some .2) in
         by-cases (unfit m plan state k (entryToward m plan state k q))
-        (λ u.
-        (unfitEntry, held-up k q h t (λ f. true-false u (fit-test m plan state k f))))
+        (λ u. (unfitEntry, held-up k q h t (λ f. true-false u (fit-test m plan state k f))))
         (λ u.
         let f = test-fit m plan state k u in
         let v = moveToward m plan state k q in
@@ -141,7 +140,7 @@ module _ (m : Model) (plan state : List ℕ) where
   OwnAnswers unfitEntry = Unit {0}
   OwnAnswers (entryMove v) = Answers m state (moveAt m v .machine) (moveAt m v .command) v
 
-  pub picked-answers : {masks : Masks} {n : ℕ} {p : Pick} → Picks m plan state masks n p → OwnAnswers p
+  picked-answers : {masks : Masks} {n : ℕ} {p : Pick} → Picks m plan state masks n p → OwnAnswers p
   picked-answers (nothing-unmet h) = tt
   picked-answers (held-up k q h t f) = tt
   picked-answers (sends k q h t f o) =

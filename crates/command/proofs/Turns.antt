@@ -9,9 +9,6 @@ use types.Run.{OneOf}
 use denote.Enum.Declared.{tagOf}
 use Rattle.common.specs.Reply.{Reply, given, refused, andThen}
 use Rattle.common.proofs.Reply.{andThen-given, given-clear, given-stays}
-use Rattle.sheet.specs.declared.index.Machine.{Machine}
-use Rattle.sheet.specs.declared.refusal.Cause.{Cause}
-use Rattle.sheet.specs.Refusal.{numberOf}
 use Rattle.sheet.specs.Parse.{parse}
 use Rattle.sheet.proofs.Parsed.{parse-valid}
 use Rattle.plan.specs.Groups.{groupsOf}
@@ -29,11 +26,11 @@ use Rattle.command.specs.declared.acting.Change.the-variants.{Changed, U
 use Rattle.command.specs.Next.{nextReply}
 use Rattle.command.specs.Apply.{Applied, Effect, applyReply, effectReply, stateAfter}
 use Rattle.command.specs.Advised.{adviceSays, changeSays}
-use Rattle.command.specs.Walk.{Turn, over, obeyed, obeyReply, turnReply, afterPlanning, walkLines}
+use Rattle.command.specs.Walk.{Turn, obeyed, obeyReply, turnBy, turnReply, afterPlanning, walkLines}
 use Rattle.command.specs.Walking.{planFront, turnTold, turnLeaves, TurnsRight}
 use Rattle.command.proofs.method.Advice.{the-type as advice-type}
 use Rattle.command.proofs.acting.Change.{the-type as change-type}
-use Rattle.command.proofs.Walks.{turn-done, turn-stops, turn-sends, obey-turn}
+use Rattle.command.proofs.Walks.{turn-is, obey-turn}
 
 -- no plan is longer: 32 machines in 32 groups, and 16,384 entries
 pub length-most : (sheet : List ℕ) {n : ℕ} → lengthReply sheet ≡ given n → n ≤ 32944
@@ -102,27 +99,12 @@ module _ (sheet state : List ℕ) (i c : ℕ) where
       → (toldBy i c (changeSays x) ≡ turnTold (obeyReply sheet state i c)) × (state' ≡ turnLeaves (obeyReply sheet state i c) state)
   obeyed-by r x e a left = (ap (toldBy i c) (ap changeSays (sym a) ∙ e) ∙ sym told-is, left ∙ sym left-is)
 
-module _ (sheet plan state goal : List ℕ) where
-  -- `turn`: by what next command answers
-  pub turned-done : (r : Advice) → adviceSays r ≡ nextReply sheet plan state goal → r ≡ Done
-      → (given over ≡ turnTold (turnReply sheet plan state goal)) × (state ≡ turnLeaves (turnReply sheet plan state goal) state)
-  turned-done r e a =
-      let t = turn-done sheet plan state goal (sym e ∙ ap adviceSays a) in
-      (sym (ap turnTold t), sym (ap (λ q. turnLeaves q state) t))
-
-  pub turned-down : (r : Advice) {cause : Cause} {place : ℕ} → adviceSays r ≡ nextReply sheet plan state goal
-      → r ≡ Refused cause place
-      → (refused (numberOf cause) place ≡ turnTold (turnReply sheet plan state goal))
-      × (state ≡ turnLeaves (turnReply sheet plan state goal) state)
-  turned-down r e a =
-      let t = turn-stops sheet plan state goal (sym e ∙ ap adviceSays a) in
-      (sym (ap turnTold t), sym (ap (λ q. turnLeaves q state) t))
-
-  pub turned-by : (r : Advice) {m : Machine} {byte : ℕ} {told : Reply (Turn ℕ)} {left : List ℕ}
-      → adviceSays r ≡ nextReply sheet plan state goal → r ≡ Send m byte
-      → (told ≡ turnTold (obeyReply sheet state (m .0) byte)) × (left ≡ turnLeaves (obeyReply sheet state (m .0) byte) state)
-      → (told ≡ turnTold (turnReply sheet plan state goal)) × (left ≡ turnLeaves (turnReply sheet plan state goal) state)
-  turned-by r e a h = rw (turn-sends sheet plan state goal (sym e ∙ ap adviceSays a)) h
+-- `turn`: by what next command answers
+pub turned-by : (sheet plan state goal : List ℕ) (r x : Advice) {told : Reply (Turn ℕ)} {left : List ℕ}
+    → adviceSays r ≡ nextReply sheet plan state goal → r ≡ x
+    → (told ≡ turnTold (andThen (adviceSays x) (turnBy sheet state))) × (left ≡ turnLeaves (andThen (adviceSays x) (turnBy sheet state)) state)
+    → (told ≡ turnTold (turnReply sheet plan state goal)) × (left ≡ turnLeaves (turnReply sheet plan state goal) state)
+turned-by sheet plan state goal r x e a h = rw (turn-is sheet plan state goal (sym e ∙ ap adviceSays a)) h
 
 -- The cases that are left by two tests
 

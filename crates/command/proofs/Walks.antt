@@ -17,7 +17,7 @@ use Rattle.command.specs.Next.{Next, done, command, nextReply, goalRefus
 use Rattle.command.specs.Apply.{actingMove, stateBy, Applied, applyReply, stateAfter}
 use Rattle.command.specs.Run.{Lent, lend, askReply, Call, ask, apply, none, Situation, begins, pendingOf, IsPending, appliedBy}
 use Rattle.command.specs.Run.{after, afterAll, Run}
-use Rattle.command.specs.Walk.{Turn, over, obeyed, obeyReply, turnReply, obey, walkLines}
+use Rattle.command.specs.Walk.{Turn, over, obeyed, obeyReply, turnBy, turnReply, obey, walkLines}
 use Rattle.command.specs.Walking.{turnTold, turnLeaves, linesBy}
 use Rattle.command.specs.Walked.{Obeys, arrived, halted, went, WalksRight}
 use Rattle.command.proofs.Asking.{refusals-parts}
@@ -26,27 +26,13 @@ use Rattle.command.proofs.Arrival.{arrival}
 
 -- One turn
 
-module _ (sheet plan state goal : List ℕ) where
-  pub turn-done : nextReply sheet plan state goal ≡ given done → turnReply sheet plan state goal ≡ given over
-  unfolding turnReply andThen
-  turn-done e = rw e
+-- it goes by what next command replies
+pub turn-is : (sheet plan state goal : List ℕ) {r : Reply Next} → nextReply sheet plan state goal ≡ r
+    → turnReply sheet plan state goal ≡ andThen r (turnBy sheet state)
+unfolding turnReply
+turn-is sheet plan state goal e = rw e
 
-  pub turn-stops : {number place : ℕ} → nextReply sheet plan state goal ≡ refused number place
-      → turnReply sheet plan state goal ≡ refused number place
-  unfolding turnReply andThen
-  turn-stops e = rw e
-
-  pub turn-sends : {i c : ℕ} → nextReply sheet plan state goal ≡ given (command i c)
-      → turnReply sheet plan state goal ≡ obeyReply sheet state i c
-  unfolding turnReply andThen
-  turn-sends e = rw e
-
-  turn-goes : {i c : ℕ} (a : Applied) → nextReply sheet plan state goal ≡ given (command i c)
-      → applyReply sheet state i c ≡ given a → turnReply sheet plan state goal ≡ given (obeyed i c a)
-  unfolding obeyReply andThen
-  turn-goes a e h = turn-sends e ∙ rw h
-
--- and its line
+-- and makes its line
 pub obey-turn : (sheet plan goal : List ℕ) (bound n count : ℕ) (state : List ℕ) (r : Reply (Turn Applied))
     → turnReply sheet plan state goal ≡ r
     → obey sheet plan goal bound (suc n) count state
@@ -103,6 +89,7 @@ module _ (sheet plan goal : List ℕ) (d : Parsed) (parsed : parse sheet ≡ giv
   abbrev Right : ℕ → Situation → Type 0
   Right n s = Obeys sheet plan goal bound (s .applied) (s .state) (obey sheet plan goal bound n (s .applied) (s .state))
 
+  -- the lines of a turn
   abbrev lines : (n : ℕ) (s : Situation) (r : Reply (Turn Applied)) → turnReply sheet plan (s .state) goal ≡ r
       → obey sheet plan goal bound (suc n) (s .applied) (s .state)
       ≡ linesBy (turnTold r) (s .applied) bound (obey sheet plan goal bound n (s .applied + 1) (turnLeaves r (s .state)))
@@ -111,12 +98,13 @@ module _ (sheet plan goal : List ℕ) (d : Parsed) (parsed : parse sheet ≡ giv
   step : (n : ℕ) (s : Situation) (r : Reply Next) → nextReply sheet plan (s .state) goal ≡ r
       → ((i c : ℕ) → r ≡ given (command i c) → Right n (afterAll (lend sheet plan goal) s (ask ∷ apply ∷ [])))
       → Right (suc n) s
-  step n s (given done) e later = rw (lines n s _ (turn-done sheet plan (s .state) goal e)) (arrived e)
-  step n s (refused number place) e later = rw (lines n s _ (turn-stops sheet plan (s .state) goal e)) (halted e)
+  unfolding obeyReply andThen
+  step n s (given done) e later = rw (lines n s _ (turn-is sheet plan (s .state) goal e)) (arrived e)
+  step n s (refused number place) e later = rw (lines n s _ (turn-is sheet plan (s .state) goal e)) (halted e)
   step n s (given (command i c)) e later =
       let a = applies (s .state) i c e in
       let rest = subst (Right n) (turn-leaves (lend sheet plan goal) s e) (later i c refl) in
-      rw (lines n s _ (turn-goes sheet plan (s .state) goal (a .0) e (a .1)), add-one (s .applied))
+      rw (lines n s (given (obeyed i c (a .0))) (turn-is sheet plan (s .state) goal e ∙ rw (a .1)), add-one (s .applied))
       (went (a .0) e (a .1) (rw (a .1) at rest))
 
   -- a run gives a command only while fewer were applied than the bound, so as many turns and one suffice

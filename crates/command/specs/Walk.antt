@@ -5,7 +5,7 @@ use Rattle.common.specs.Reply.{Reply, given, refused, andThen}
 use Rattle.sheet.specs.Parse.{Parsed, parse}
 use Rattle.plan.specs.Planning.{lengthReply, planReply}
 use Rattle.plan.specs.Reading.{boundIn}
-use Rattle.command.specs.Next.{done, command, nextReply}
+use Rattle.command.specs.Next.{Next, done, command, nextReply}
 use Rattle.command.specs.Apply.{Applied, applyReply}
 
 -- a machine, a command and the move that it was; `done`, the count and the bound; `refused`, the number and the place
@@ -23,13 +23,14 @@ pub data Turn (A : Type 0) : Type 0 where
 unfoldable pub obeyReply : List ℕ → List ℕ → ℕ → ℕ → Reply (Turn Applied)
 obeyReply sheet state i c = andThen (applyReply sheet state i c) (λ a. given (obeyed i c a))
 
+-- goes by what next command gives
+abbrev pub turnBy : List ℕ → List ℕ → Next → Reply (Turn Applied)
+turnBy sheet state done = given over
+turnBy sheet state (command i c) = obeyReply sheet state i c
+
 -- asks for the next command and obeys it
 unfoldable pub turnReply : List ℕ → List ℕ → List ℕ → List ℕ → Reply (Turn Applied)
-turnReply sheet plan state goal =
-    andThen (nextReply sheet plan state goal) (λ r. elim r [
-      | done ↦ given over
-      | command i c ↦ obeyReply sheet state i c
-    ])
+turnReply sheet plan state goal = andThen (nextReply sheet plan state goal) (turnBy sheet state)
 
 module _ (sheet plan goal : List ℕ) (bound : ℕ) where
   -- at most n more lines, after a count of commands
