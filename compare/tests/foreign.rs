@@ -1,10 +1,13 @@
 //! Plans that are not the sheet's own, in both versions: the reply follows from
 //! their entries.
 
-use duty_compare::both::{next_command, own_plan};
-use duty_compare::command::{Command, Next};
-use duty_compare::plan::HERE;
+use duty_compare::both::{apply, next_command, own_plan};
+use duty_compare::command::{Command, Effect, Next};
+use duty_compare::plan::{HERE, NO_ROUTE};
+use duty_compare::random::{lent, Random};
 use duty_compare::samples::{dials, stove, Builder};
+use duty_compare::shape::Plan;
+use duty_compare::sheet::Sheet;
 use duty_compare::{refuse, Reply};
 
 /// The stove's tables: the board's entries, then fan and burner's.
@@ -162,4 +165,39 @@ fn a_plan_may_serve_a_sheet_that_planning_refuses() {
     assert_eq!(turned([3, 0, 0, 2, 0, 0]), send(5, 1));
     assert_eq!(turned([3, 0, 0, 2, 1, 0]), send(3, 1));
     assert_eq!(turned([3, 1, 1, 2, 1, 0]), send(0, 1));
+}
+
+/// The moves that a plan's entries name for a machine's group as it stands.
+fn named(sheet: &[u8], plan: &[u8], state: &[u8], machine: u8) -> Vec<u8> {
+    let sheet = Sheet::read(sheet).expect("a sheet that passes");
+    let plan = Plan::read(&sheet, plan).expect("a plan in shape");
+    let group = plan.groups.of[machine as usize] as usize;
+    let entries = plan.entries(group, plan.groups.present(group, state));
+    let routes = entries.iter().filter(|entry| entry[0] != NO_ROUTE[0]);
+    routes.map(|entry| entry[1]).collect()
+}
+
+/// Under plans of every kind, the sheet's own among them: a command that is
+/// replied acts, by a move that an entry of the plan names there.
+#[test]
+fn a_command_is_a_move_that_an_entry_names() {
+    let (mut own, mut others) = (0, 0);
+    for seed in 0..20_000 {
+        let input = lent(&mut Random::new(seed));
+        let (sheet, plan) = (input.sheet.get(), input.plan.get());
+        let mut state = input.state.get().to_vec();
+        let Ok(Next::Send(command)) = next_command(sheet, plan, &state, input.goal.get()) else {
+            continue;
+        };
+        let named = named(sheet, plan, &state, command.machine);
+        let Ok(Effect::Move(number)) = apply(sheet, &mut state, command) else {
+            panic!("seed {seed}: {command:?} does not act");
+        };
+        assert!(named.contains(&number), "seed {seed}: {number} {named:?}");
+        match own_plan(sheet) {
+            Ok(own_plan) if own_plan == plan => own += 1,
+            _ => others += 1,
+        }
+    }
+    assert!(own > 100 && others > 100, "{own} own, {others} others");
 }
