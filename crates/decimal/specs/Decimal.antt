@@ -1,0 +1,35 @@
+-- Decimal numbers in a text of bytes: written without leading zeros, and read.
+use Prim.Native.Nat.{ℕ, zero, suc, _+_, _*_, _-_, _/_, _%_}
+use mathlib.Core.List.{List, [], _∷_, _++_}
+use mathlib.Core.Bool.{Bool, cond, _&&_}
+use lib.Dec.{ltb, leb}
+
+-- the byte of a digit
+unfoldable pub digit : ℕ → ℕ
+digit d = 48 + d
+
+-- at most so many digits of a number, the last ones
+unfoldable pub digits : ℕ → ℕ → List ℕ
+digits zero n = []
+digits (suc most) n =
+    let longer = digits most (n / 10) ++ (digit (n % 10) ∷ []) in
+    cond (ltb n 10) (digit n ∷ []) longer
+
+-- a number of at most five digits
+unfoldable pub decimal : ℕ → List ℕ
+decimal n = digits 5 n
+
+-- 0 to 9
+unfoldable pub isDigit : ℕ → Bool
+isDigit b = leb 48 b && ltb b 58
+
+-- the number of the digits that begin a text, behind those of a number before them, modulo 65,536
+unfoldable pub numberAfter : ℕ → List ℕ → ℕ
+numberAfter before [] = before
+numberAfter before (b ∷ rest) =
+    let longer = numberAfter ((10 * before + (b - 48)) % 65536) rest in
+    cond (isDigit b) longer before
+
+-- the number that begins a text, 0 where none does
+unfoldable pub numberIn : List ℕ → ℕ
+numberIn text = numberAfter 0 text

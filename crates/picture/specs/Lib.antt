@@ -1,0 +1,5 @@
+pub mod Drawn
+pub mod Graph
+pub mod Picture
+pub mod Reading
+pub mod Text
