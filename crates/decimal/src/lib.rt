@@ -1,4 +1,6 @@
 // Decimal numbers in a text of bytes: written without leading zeros, and read.
+pub mod promises;
+
 use sheet::record::wide;
 ghost use mathlib.Core.Path.{_≡_};
 ghost use Prim.Native.Nat.{_+_, _%_, _≤_, _<_};
