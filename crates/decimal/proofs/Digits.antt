@@ -27,9 +27,13 @@ digits-more most n f = rw f
 
 -- Digits
 
+pub digit-from : (b : ℕ) → 48 ≤ b → b ≤ 57 → isDigit b ≡ true
+unfolding isDigit
+digit-from b h k = and-intro (le-leb 48 b h) (lt-ltb b 58 (omega arith))
+
 pub digit-is : (d : ℕ) → d < 10 → isDigit (digit d) ≡ true
-unfolding isDigit digit
-digit-is d h = and-intro (le-leb 48 (48 + d) (omega arith)) (lt-ltb (48 + d) 58 (omega arith))
+unfolding digit
+digit-is d h = digit-from (48 + d) (omega arith) (omega arith)
 
 pub digit-within : (b : ℕ) → isDigit b ≡ true → (48 ≤ b) × (b ≤ 57)
 unfolding isDigit

@@ -9,20 +9,30 @@ use native.Mathlib.Omega.{arith}
 use borrow.Author.Tests.{ltb-true}
 use lib.Dec.{ltb}
 use Rattle.common.specs.Lists.{all}
-use Rattle.common.proofs.Bools.{by-cases, and-left, and-right, false-of-not-true}
+use Rattle.common.proofs.Bools.{by-cases, and-left, and-right, true-false, false-of-not-true}
 use Rattle.decimal.specs.Decimal.{digit, digits, decimal, isDigit, numberAfter, numberIn}
 use Rattle.decimal.specs.Meaning.{NoDigitFirst, DecimalRight}
-use Rattle.decimal.proofs.Digits.{digits-are, digit-is, digit-within}
+use Rattle.decimal.proofs.Digits.{digits-are, digit-is, digit-from, digit-within}
 use Rattle.decimal.proofs.Digits.{digits-only, some-digit, no-leading-zero}
 
+-- Texts that do not begin with a digit
+
+pub nothing-first : NoDigitFirst []
+nothing-first l a b = omega arith
+
+pub other-first : (b : ℕ) (rest : List ℕ) → isDigit b ≡ false → NoDigitFirst (b ∷ rest)
+other-first b rest f l h k = true-false (digit-from b h k) f
+
+pub no-digit-first : (b : ℕ) (rest : List ℕ) → NoDigitFirst (b ∷ rest) → isDigit b ≡ false
+no-digit-first b rest h = false-of-not-true (λ t. let w = digit-within b t in h (omega arith) (w .0) (w .1))
+
+-- Reading
+
 -- where the text has no digit first, nothing more is read
-pub number-ends : (a : ℕ) (rest : List ℕ) → NoDigitFirst rest → numberAfter a rest ≡ a
+number-ends : (a : ℕ) (rest : List ℕ) → NoDigitFirst rest → numberAfter a rest ≡ a
 unfolding numberAfter
 number-ends a [] h = refl
-number-ends a (b ∷ rest) h =
-    let f : isDigit b ≡ false
-    = false-of-not-true (λ t. let w = digit-within b t in h (omega arith) (w .0) (w .1)) in
-    rw f
+number-ends a (b ∷ rest) h = rw (no-digit-first b rest h)
 
 -- what stands behind a text that does not go on with a digit does not matter
 pub number-stays : (a : ℕ) (xs rest : List ℕ) → NoDigitFirst rest → numberAfter a (xs ++ rest) ≡ numberAfter a xs
