@@ -1,7 +1,7 @@
--- The digits of a number, one after the other, and what writing them leaves.
+-- Bytes written one after the other, and the digits of a number written so.
 -- Assumes nothing.
 use Prim.Native.Nat.{ℕ, zero, suc, _+_, _-_, _/_, _%_, _≤_, _<_}
-use mathlib.Core.Path.{_≡_, refl, sym, ap, _∙_}
+use mathlib.Core.Path.{_≡_, refl, ap, _∙_}
 use mathlib.Core.List.{List, [], _∷_, _++_}
 use native.Mathlib.Omega.{arith}
 use native.Mathlib.Numerals.{add-one}
@@ -12,9 +12,22 @@ use Rattle.plan.specs.Written.{written}
 use Rattle.plan.proofs.Overwriting.{written-none, written-more}
 use Rattle.decimal.specs.Decimal.{digit, digits}
 
-pub one-written : (at b : ℕ) (s : List ℕ) → at < length s → set s at b ≡ written at (b ∷ []) s
+-- A call that writes a piece at a place, and gives the place behind it.
+abbrev pub Puts : List ℕ → ℕ → List ℕ → ℕ → List ℕ → Type 0
+Puts s at piece end out = (end ≡ at + length piece) × (out ≡ written at piece s)
+
+pub put-byte : (s : List ℕ) (at b : ℕ) → at < length s → Puts s at (b ∷ []) (at + 1) (set s at b)
 unfolding written
-one-written at b s h = rw (add-one at) (set-split s at b h)
+put-byte s at b h = (refl, rw (add-one at) (set-split s at b h))
+
+pub puts-none : (s : List ℕ) (at : ℕ) → Puts s at [] at s
+puts-none s at = (omega arith, written-none at s)
+
+-- a second piece behind the first
+pub puts-then : (s : List ℕ) (at : ℕ) (first second : List ℕ) {front out : List ℕ} {mid end : ℕ} → at ≤ length s
+    → Puts s at first mid front → Puts front mid second end out → Puts s at (first ++ second) end out
+puts-then s at first second room p q =
+    (omega (arith, length-append first second, p .0, q .0), q .1 ∙ rw (p .1) (written-more at first s room second (p .0)))
 
 module _ (n : ℕ) where
   pub digits-none : {most : ℕ} → most ≡ 0 → digits most n ≡ []
@@ -35,31 +48,22 @@ module _ (n : ℕ) where
       let e : suc most - 1 ≡ most = omega arith in
       rw (le-ltb _ _ h, e) refl
 
--- A call that writes the digits, and gives the place behind them.
 module _ (s : List ℕ) (at n most : ℕ) where
-  abbrev pub Put : ℕ → List ℕ → Type 0
-  Put end out = (end ≡ at + length (digits most n)) × (out ≡ written at (digits most n) s)
-
-  pub put-none : most ≡ 0 → Put at s
-  put-none e = rw (digits-none n e) (omega arith, written-none at s)
+  pub put-none : most ≡ 0 → Puts s at (digits most n) at s
+  put-none e = rw (digits-none n e) (puts-none s at)
 
   module _ (some : most ≡ 0 → ⊥) where
     some-digit : 0 < most
     some-digit = omega (arith, some)
 
-    pub put-last : {end : ℕ} {out : List ℕ} → n < 10 → (end ≡ at + 1) × (out ≡ written at (digit (n % 10) ∷ []) s)
-        → Put end out
+    pub put-last : {end : ℕ} {out : List ℕ} → n < 10 → Puts s at (digit (n % 10) ∷ []) end out
+        → Puts s at (digits most n) end out
     put-last h r = rw (digits-last n most some-digit h) r
 
     pub put-more : {mid end : ℕ} {front out : List ℕ} → 10 ≤ n → at ≤ length s
-        → (mid ≡ at + length (digits (most - 1) (n / 10))) × (front ≡ written at (digits (most - 1) (n / 10)) s)
-        → (end ≡ mid + 1) × (out ≡ written mid (digit (n % 10) ∷ []) front) → Put end out
-    put-more h room first last =
-        let more = digits (most - 1) (n / 10) in
-        rw (digits-more n most some-digit h) (
-          omega (arith, length-append more (digit (n % 10) ∷ []), first .0, last .0),
-          last .1 ∙ rw (first .1) (written-more at more s room _ (first .0)),
-        )
+        → Puts s at (digits (most - 1) (n / 10)) mid front → Puts front mid (digit (n % 10) ∷ []) end out
+        → Puts s at (digits most n) end out
+    put-more h room first last = rw (digits-more n most some-digit h) (puts-then s at _ _ room first last)
 
     pub room-last : {size : ℕ} → n < 10 → at + length (digits most n) ≤ size → at < size
     room-last h room = omega (arith, ap length (digits-last n most some-digit h))

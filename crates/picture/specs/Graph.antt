@@ -24,12 +24,20 @@ sameBytes [] (y ∷ ys) = false
 sameBytes (x ∷ xs) [] = false
 sameBytes (x ∷ xs) (y ∷ ys) = eqb x y && sameBytes xs ys
 
+-- the text begins with the bytes
+unfoldable pub startsWith : List ℕ → List ℕ → Bool
+startsWith [] text = true
+startsWith (x ∷ xs) [] = false
+startsWith (x ∷ xs) (y ∷ ys) = eqb x y && startsWith xs ys
+
 -- the text is exactly that of a picture that a sheet can have
 unfoldable pub isText : Picture → List ℕ → Bool
 isText p text = drawable p && sameBytes (textOf p) text
 
--- the picture of a text, in bytes: 20, then 12
+-- the text read as a picture, in bytes: 20, then 12
+unfoldable pub readAs : Picture → List ℕ → ℕ → Reply (List ℕ)
+readAs p text room = unless (fault 20 0 (not (isText p text)) ∷ []) (fitted (pictureBytes p) room)
+
+-- the picture of a text
 unfoldable pub readReply : List ℕ → ℕ → Reply (List ℕ)
-readReply text room =
-    let p = takenApart text in
-    unless (fault 20 0 (not (isText p text)) ∷ []) (fitted (pictureBytes p) room)
+readReply text room = readAs (takenApart text) text room

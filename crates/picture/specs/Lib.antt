@@ -2,4 +2,5 @@ pub mod Drawn
 pub mod Graph
 pub mod Picture
 pub mod Reading
+pub mod Rows
 pub mod Text

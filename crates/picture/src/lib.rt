@@ -1,1 +1,3 @@
-// The picture of who needs whom, written as a text and read back.
+// The picture of who needs whom: written as a text, and read back.
+pub mod lines;
+pub mod rows;

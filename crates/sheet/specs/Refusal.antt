@@ -21,6 +21,7 @@ use Rattle.sheet.specs.declared.refusal.Cause.the-variants.{
   NoRoute,
   DeadEnd,
   NoSharedMode,
+  NotAPicture,
 }
 
 abbrev pub numberOf : Cause → ℕ
@@ -43,3 +44,4 @@ numberOf NotLive = 16
 numberOf NoRoute = 17
 numberOf DeadEnd = 18
 numberOf NoSharedMode = 19
+numberOf NotAPicture = 20

@@ -26,6 +26,8 @@ pub enum Cause {
     DeadEnd,
     // 19: joining goals.
     NoSharedMode,
+    // 20: reading a picture.
+    NotAPicture,
 }
 
 // What a test of lent bytes finds.
@@ -59,5 +61,6 @@ pub fn number(cause: Cause) -> u8
         Cause::NoRoute => 17,
         Cause::DeadEnd => 18,
         Cause::NoSharedMode => 19,
+        Cause::NotAPicture => 20,
     }
 }

@@ -1,6 +1,5 @@
-use mathlib.Core.Path.{refl}
 use Rattle.decimal.specs.Decimal.{digit}
-use Rattle.decimal.proofs.Putting.{one-written}
+use Rattle.decimal.proofs.Putting.{put-byte}
 use borrow.Author.Needs.{needs}
 use Rattle.decimal.proofs.put_digit.Statement.{statement}
 use Rattle.decimal.proofs.put_digit.Tie as tie
@@ -30,7 +29,7 @@ same-length c = search needs
 -- src/lib.rt:11:1
 returns : tie.Need-returns
 unfolding digit
-returns c = (refl, one-written _ _ _ (c .pre))
+returns c = put-byte _ _ _ (c .pre)
 
 pub put-digit-spec : {M : Type 1} → statement M
 put-digit-spec =

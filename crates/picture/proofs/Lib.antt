@@ -1,0 +1,5 @@
+pub mod EdgeRows
+pub mod Labels
+pub mod Matching
+pub mod Pieces
+pub mod TextRows

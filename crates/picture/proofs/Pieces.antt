@@ -1,0 +1,78 @@
+-- The lines of a text, written piece by piece, and how long they can be.
+-- Assumes nothing.
+use Prim.Native.Nat.{ℕ, suc, _+_, _*_, _≤_, _<_}
+use mathlib.Core.Path.{_≡_, refl, sym, ap, _∙_}
+use mathlib.Core.List.{List, [], _∷_, _++_, append-assoc}
+use native.Mathlib.Omega.{arith}
+use native.Mathlib.Numerals.{add-one}
+use lib.ListN.{length, set, take, length-append}
+use lib.Seq.{sets-eq}
+use Rattle.decimal.specs.Decimal.{decimal}
+use Rattle.decimal.proofs.Digits.{two-digits}
+use Rattle.decimal.proofs.Putting.{Puts, puts-then}
+use Rattle.plan.specs.Written.{written}
+use Rattle.plan.specs.Groups.{members}
+use Rattle.picture.specs.Picture.{edge}
+use Rattle.picture.specs.Text.{lineStart, labels, nodeLine, edgeLine}
+use Rattle.picture.proofs.Labels.{labels-short}
+
+pub name-short : (k : ℕ) → k < 32 → length (lineStart k) ≤ 5
+unfolding lineStart
+name-short k l = omega (arith, two-digits k (omega arith))
+
+pub edge-short : (a k : ℕ) → a < 32 → k < 32 → length (edgeLine (edge a k)) ≤ 14
+unfolding edgeLine
+edge-short a k l h =
+    let arrow : List ℕ = 32 ∷ 45 ∷ 62 ∷ 32 ∷ 103 ∷ decimal k in
+    omega (
+      arith,
+      length-append (lineStart a ++ arrow) (59 ∷ 10 ∷ []),
+      length-append (lineStart a) arrow,
+      name-short a l,
+      two-digits k (omega arith),
+    )
+
+pub node-short : (numbers : List ℕ) (k : ℕ) → length numbers ≤ 32 → k < 32 → length (nodeLine numbers k) ≤ 512
+unfolding nodeLine
+node-short numbers k l h =
+    let label : List ℕ = 32 ∷ 91 ∷ 108 ∷ 97 ∷ 98 ∷ 101 ∷ 108 ∷ 61 ∷ [] in
+    let machines = labels 34 (members numbers k) in
+    omega (
+      arith,
+      length-append (lineStart k ++ label ++ machines) (34 ∷ 93 ∷ 59 ∷ 10 ∷ []),
+      length-append (lineStart k ++ label) machines,
+      length-append (lineStart k) label,
+      name-short k h,
+      labels-short numbers k l,
+    )
+
+pub pair-written : (s : List ℕ) (at a k : ℕ) → at + 2 ≤ length s → set (set s at a) (at + 1) k ≡ written at (a ∷ k ∷ []) s
+unfolding written
+pair-written s at a k h = rw (add-one at) (sets-eq (a ∷ k ∷ []) s at h ∙ append-assoc (take at s) _ _)
+
+module _ (s : List ℕ) (at : ℕ) (room : at ≤ length s) where
+  pub number-put : (b n : ℕ) {end : ℕ} {front out : List ℕ} → Puts s at (b ∷ []) (at + 1) front
+      → Puts front (at + 1) (decimal n) end out → Puts s at (b ∷ decimal n) end out
+  number-put b n p q = puts-then s at _ _ room p q
+
+  pub name-put : (k : ℕ) {mid end : ℕ} {front out : List ℕ} → Puts s at (32 ∷ 32 ∷ []) mid front
+      → Puts front mid (103 ∷ decimal k) end out → Puts s at (lineStart k) end out
+  unfolding lineStart
+  name-put k p q = puts-then s at _ _ room p q
+
+  pub edge-put : (a k : ℕ) {name arrow mid end : ℕ} {s1 s2 s3 out : List ℕ} → Puts s at (lineStart a) name s1
+      → Puts s1 name (32 ∷ 45 ∷ 62 ∷ 32 ∷ []) arrow s2 → Puts s2 arrow (103 ∷ decimal k) mid s3
+      → Puts s3 mid (59 ∷ 10 ∷ []) end out → Puts s at (edgeLine (edge a k)) end out
+  unfolding edgeLine
+  edge-put a k p q r t =
+      let front = puts-then s at _ _ room (puts-then s at _ _ room p q) r in
+      puts-then s at _ _ room (rw (append-assoc (lineStart a) (32 ∷ 45 ∷ 62 ∷ 32 ∷ []) (103 ∷ decimal k)) at front) t
+
+pub node-put : (s numbers : List ℕ) (k : ℕ) {name label mid end : ℕ} {s1 s2 s3 out : List ℕ} → Puts s 0 (lineStart k) name s1
+    → Puts s1 name (32 ∷ 91 ∷ 108 ∷ 97 ∷ 98 ∷ 101 ∷ 108 ∷ 61 ∷ []) label s2
+    → Puts s2 label (labels 34 (members numbers k)) mid s3 → Puts s3 mid (34 ∷ 93 ∷ 59 ∷ 10 ∷ []) end out
+    → Puts s 0 (nodeLine numbers k) end out
+unfolding nodeLine
+node-put s numbers k p q r t =
+    let room : 0 ≤ length s = omega arith in
+    puts-then s 0 _ _ room (puts-then s 0 _ _ room (puts-then s 0 _ _ room p q) r) t
