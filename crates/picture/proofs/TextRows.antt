@@ -16,7 +16,7 @@ use Rattle.picture.specs.Picture.{Edge, edge, edgesBy, pictureBytes}
 use Rattle.picture.specs.Text.{firstLine, lastLine, nodeLine, edgeLine, textOf}
 use Rattle.picture.specs.Rows.{joins, edgesFrom, edgeRow, pairRow, Shows, shown, rowOf, rowsFrom}
 
-flatMap-flatMap : {A B C : Type 0} (g : B → List C) (f : A → List B) (xs : List A)
+pub flatMap-flatMap : {A B C : Type 0} (g : B → List C) (f : A → List B) (xs : List A)
     → flatMap g (flatMap f xs) ≡ flatMap (λ x. flatMap g (f x)) xs
 unfolding flatMap
 flatMap-flatMap g f [] = refl

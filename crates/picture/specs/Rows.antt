@@ -2,11 +2,11 @@
 use Prim.Native.Nat.{ℕ, _+_, _*_, _-_, _≤_}
 use mathlib.Core.Path.{_≡_}
 use mathlib.Core.List.{List, [], _∷_, map, flatMap}
-use mathlib.Core.Bool.{Bool, cond}
-use lib.ListN.{length, getD}
+use mathlib.Core.Bool.{Bool, true, cond}
+use lib.ListN.{length, getD, take}
 use lib.Dec.{ltb}
 use Rattle.common.specs.Bits.{bit}
-use Rattle.common.specs.Lists.{upTo, filter}
+use Rattle.common.specs.Lists.{upTo, all, filter}
 use Rattle.plan.specs.Groups.{groupCount}
 use Rattle.picture.specs.Picture.{Edge, edge, Picture, edgesBy}
 use Rattle.picture.specs.Text.{nodeLine, edgeLine}
@@ -48,3 +48,10 @@ module _ (numbers sources : List ℕ) where
   -- n rows, from one on
   unfoldable pub rowsFrom : ℕ → ℕ → List ℕ
   rowsFrom first n = flatMap (λ j. rowOf (first + j)) (upTo n)
+
+-- A picture of which a text says as much: numbers that are 32 for any larger one, and sources among which there can be more
+-- than the picture has groups.
+pub record Tells (p : Picture) (numbers sources : List ℕ) : Type 0 where
+  pub machines : length (p .groups) ≡ length numbers
+  pub below : all (λ k. ltb k (length numbers)) (p .groups) ≡ all (λ k. ltb k (length numbers)) numbers
+  pub picture : all (λ k. ltb k (length numbers)) numbers ≡ true → p ≡ shown numbers (take (groupCount numbers) sources)

@@ -1,3 +1,7 @@
 // The picture of who needs whom: written as a text, and read back.
+pub mod graph;
 pub mod lines;
+pub mod promises;
 pub mod rows;
+pub mod taking;
+pub mod turns;

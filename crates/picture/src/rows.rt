@@ -39,7 +39,8 @@ fn put_row(row: &mut [u8], numbers: &[u8], sources: &[u64], j: usize) -> usize
 // The length of some rows.
 pub fn rows_length(numbers: &[u8], sources: &[u64], span: Span) -> usize
     requires { ⌜ Shows (now numbers) (now sources) × (span .first + span .n ≤ 3 * length (now sources)) ⌝ }
-    ensures { λ r. ⌜ r ≡ length (rowsFrom (now (numbers .entry)) (now (sources .entry)) (span .first) (span .n)) ⌝ }
+    ensures short { λ r. ⌜ r ≤ 49152 ⌝ }
+    ensures length { λ r. ⌜ r ≡ length (rowsFrom (now (numbers .entry)) (now (sources .entry)) (span .first) (span .n)) ⌝ }
 {
     let mut row = [0u8; 512];
     let first = span.first;

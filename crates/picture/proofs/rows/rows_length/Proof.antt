@@ -55,7 +55,10 @@ loop-again c =
 
 -- src/rows.rt:40:1
 returns : tie.Need-returns Inv-loop μ-loop
-returns c = counted-end _ _ _ _ (c .before .loop .inv .1) (c .loop-test .left)
+returns c =
+    let start = c .before .before .before .before in
+    let u = c .before .loop .inv .1 in
+    (omega (arith, u .short, u .inside, start .pre .1, start .pre .0 .few-groups), counted-end _ _ _ _ (c .before .loop .inv .1) (c .loop-test .left))
 
 pub rows-length-spec : {M : Type 1} → statement M
 rows-length-spec =

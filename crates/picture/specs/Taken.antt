@@ -1,0 +1,31 @@
+-- How the code keeps what the numbers of a text have said.
+use Prim.Native.Nat.{ℕ, _<_, min}
+use mathlib.Core.Path.{_≡_}
+use mathlib.Core.List.{List}
+use mathlib.Core.Bool.{Bool, _&&_, _||_}
+use lib.Dec.{eqb}
+use lib.ListN.{length, getD}
+use Rattle.common.specs.Bits.{bit}
+use Rattle.picture.specs.declared.taking.Last.{Last}
+use Rattle.picture.specs.declared.taking.Parts.{Parts}
+use Rattle.picture.specs.Reading.{Said}
+
+-- the groups of the machines below 32, 32 for any larger number, and the edges between groups below 32
+pub record Keeps (s : Said) (numbers sources : List ℕ) : Type 0 where
+  pub groups : (i : ℕ) → i < 32 → getD numbers i 0 ≡ min (s .group i) 32
+  pub edges : (a k : ℕ) → a < 32 → k < 32 → bit (getD sources k 0) a ≡ s .joined a k
+
+-- an edge from a to k, if there is one, comes to those between groups below 32
+pub record EdgeKept (before : List ℕ) (there : Bool) (a k : ℕ) (after : List ℕ) : Type 0 where
+  pub edges : (b j : ℕ) → b < 32 → j < length before
+      → bit (getD after j 0) b ≡ (bit (getD before j 0) b || there && eqb a b && eqb k j)
+
+pub record Says (s : Said) (numbers sources : List ℕ) (l : Last) : Type 0 where
+  pub keeps : Keeps s numbers sources
+  pub machines : l .machines ≡ s .machines
+  pub last : l .group ≡ s .last
+  pub waits : l .waits ≡ s .waits
+
+pub record TakenFrom (s : Said) (r : Parts) : Type 0 where
+  pub keeps : Keeps s (r .numbers) (r .sources)
+  pub machines : r .machines ≡ s .machines

@@ -1,0 +1,131 @@
+// Taking a text apart, by its numbers alone.
+use decimal::is_digit;
+ghost use mathlib.Core.Path.{_≡_};
+ghost use mathlib.Core.Bool.{not, _&&_};
+ghost use Prim.Native.Nat.{_<_, min};
+ghost use lib.ListN.{length, set};
+ghost use Rattle.decimal.specs.Decimal.{isDigit};
+ghost use Rattle.picture.specs.Reading.{Said, nothing, withMachine, withGroup, withNumber, saidAfter};
+ghost use Rattle.picture.specs.Taken.{EdgeKept, Says, TakenFrom};
+
+// How many numbers of machines there were, the group named last, and whether it waits for the target of an edge.
+pub struct Last {
+    pub machines: usize,
+    pub group: usize,
+    pub waits: bool,
+}
+
+// What a text says: how many machines, each one's group, 32 for any larger number, and the sources of each group.
+pub struct Parts {
+    pub machines: usize,
+    pub numbers: [u8; 32],
+    pub sources: [u64; 32],
+}
+
+// The number of a group, 32 for any larger one.
+fn capped(k: usize) -> u8
+    ensures { λ r. ⌜ r ≡ min k 32 ⌝ }
+{
+    if k < 32 {
+        return k as u8;
+    }
+    32
+}
+
+// Keeps the group of machine i where i is below 32.
+fn keep_group(numbers: &mut [u8], i: usize, group: usize)
+    ensures { λ _. ⌜ now (numbers .exit) ≡ set (now (numbers .entry)) i (min group 32) ⌝ }
+{
+    if i < numbers.len() {
+        numbers[i] = capped(group);
+    }
+}
+
+// Keeps an edge from group a to group k if there is one, where both are below 32.
+fn keep_edge(sources: &mut [u64], there: bool, a: usize, k: usize)
+    ensures { λ _. ⌜ EdgeKept (now (sources .entry)) there a k (now (sources .exit)) ⌝ }
+{
+    if there && k < sources.len() {
+        sources[k] = sets::put(sources[k], a);
+    }
+}
+
+// Takes in the number of a machine.
+fn take_machine(numbers: &mut [u8], last: Last, i: usize) -> Last
+    requires { ⌜ (length (now numbers) ≡ 32) × (last .machines < 9223372036854775807) ⌝ }
+    ensures { λ r. ⌜ ((s : Said) (sources : _) → Says s (now (numbers .entry)) sources last
+        → Says (withMachine s i) (now (numbers .exit)) sources r) ⌝ }
+{
+    keep_group(numbers, i, last.group);
+    Last {
+        machines: last.machines + 1,
+        group: last.group,
+        waits: false,
+    }
+}
+
+// Takes in the number of a group.
+fn take_group(sources: &mut [u64], last: Last, k: usize) -> Last
+    requires { ⌜ length (now sources) ≡ 32 ⌝ }
+    ensures { λ r. ⌜ ((s : Said) (numbers : _) → Says s numbers (now (sources .entry)) last
+        → Says (withGroup s k) numbers (now (sources .exit)) r) ⌝ }
+{
+    keep_edge(sources, last.waits, last.group, k);
+    Last {
+        machines: last.machines,
+        group: k,
+        waits: !last.waits,
+    }
+}
+
+// Takes in a number behind a byte.
+fn take_number(numbers: &mut [u8], sources: &mut [u64], last: Last, before: u8, n: usize) -> Last
+    requires { ⌜ (length (now numbers) ≡ 32) × (length (now sources) ≡ 32) × (last .machines < 9223372036854775807) ⌝ }
+    ensures { λ r. ⌜ ((s : Said) → Says s (now (numbers .entry)) (now (sources .entry)) last
+        → Says (withNumber before n s) (now (numbers .exit)) (now (sources .exit)) r) ⌝ }
+{
+    if before == b'g' {
+        return take_group(sources, last, n);
+    }
+    take_machine(numbers, last, n)
+}
+
+// Whether a number begins at a byte behind another.
+fn begins(before: u8, b: u8) -> bool
+    ensures { λ r. ⌜ r ≡ (isDigit b && not (isDigit before)) ⌝ }
+{
+    is_digit(b) && !is_digit(before)
+}
+
+// What a text says.
+pub fn taken(text: &[u8]) -> Parts
+    ensures { λ r. ⌜ TakenFrom (saidAfter 0 (now (text .entry)) nothing) r ⌝ }
+{
+    let mut numbers = [0u8; 32];
+    let mut sources = [0u64; 32];
+    let mut last = Last {
+        machines: 0,
+        group: 0,
+        waits: false,
+    };
+    let mut before: u8 = 0;
+    let mut i: usize = 0;
+    while i < text.len() {
+        if begins(before, text[i]) {
+            last = take_number(
+                &mut numbers[..],
+                &mut sources[..],
+                last,
+                before,
+                decimal::read(text, i),
+            );
+        }
+        before = text[i];
+        i += 1;
+    }
+    Parts {
+        machines: last.machines,
+        numbers: numbers,
+        sources: sources,
+    }
+}
