@@ -3,7 +3,7 @@
 use crate::command::{Command, Effect, Next};
 use crate::library::Library;
 use crate::version::{Rust, Version};
-use crate::{walk as walks, Reply};
+use crate::{pictures, walk as walks, Reply};
 use std::fmt::Debug;
 
 /// What both versions gave.
@@ -55,6 +55,36 @@ pub fn join(sheet: &[u8], wishes: &[u8], out: &mut [u8]) -> Reply<usize> {
     let length = same(Rust::join(sheet, wishes, out), by_library);
     same(&*out, &other);
     length.map(|length| length as usize)
+}
+
+#[track_caller]
+pub fn graph(sheet: &[u8], out: &mut [u8]) -> Reply<usize> {
+    let mut other = out.to_vec();
+    let by_library = Library::graph(sheet, &mut other);
+    let length = same(Rust::graph(sheet, out), by_library);
+    same(&*out, &other);
+    length.map(|length| length as usize)
+}
+
+#[track_caller]
+pub fn graph_read(text: &[u8], out: &mut [u8]) -> Reply<usize> {
+    let mut other = out.to_vec();
+    let by_library = Library::graph_read(text, &mut other);
+    let length = same(Rust::graph_read(text, out), by_library);
+    same(&*out, &other);
+    length.map(|length| length as usize)
+}
+
+#[track_caller]
+pub fn own_text(sheet: &[u8]) -> Reply<Vec<u8>> {
+    let by_library = pictures::own_text::<Library>(sheet);
+    same(pictures::own_text::<Rust>(sheet), by_library)
+}
+
+#[track_caller]
+pub fn shown(text: &[u8]) -> Reply<Vec<u8>> {
+    let by_library = pictures::shown::<Library>(text);
+    same(pictures::shown::<Rust>(text), by_library)
 }
 
 #[track_caller]

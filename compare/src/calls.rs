@@ -43,6 +43,11 @@ pub struct Lent {
     /// become.
     pub wishes: Slot,
     pub out: Slot,
+    /// Room for the text of the sheet's picture, a text to be read as one, and
+    /// room for what it says.
+    pub drawn: Slot,
+    pub text: Slot,
+    pub shown: Slot,
 }
 
 impl Lent {
@@ -60,7 +65,10 @@ impl Lent {
                 command: 0,
             },
             wishes: none.clone(),
-            out: none,
+            out: none.clone(),
+            drawn: none.clone(),
+            text: none.clone(),
+            shown: none,
         }
     }
 }
@@ -74,7 +82,7 @@ pub struct Call {
     pub library: Side,
 }
 
-pub const CALLS: [Call; 6] = [
+pub const CALLS: [Call; 8] = [
     Call {
         name: "sheet",
         rust: sheet::<Rust>,
@@ -104,6 +112,16 @@ pub const CALLS: [Call; 6] = [
         name: "join",
         rust: join::<Rust>,
         library: join::<Library>,
+    },
+    Call {
+        name: "graph",
+        rust: graph::<Rust>,
+        library: graph::<Library>,
+    },
+    Call {
+        name: "graph_read",
+        rust: graph_read::<Rust>,
+        library: graph_read::<Library>,
     },
 ];
 
@@ -144,4 +162,12 @@ fn apply<V: Version>(lent: &mut Lent) -> Reply<u32> {
 
 fn join<V: Version>(lent: &mut Lent) -> Reply<u32> {
     V::join(lent.sheet.get(), lent.wishes.get(), lent.out.get_mut())
+}
+
+fn graph<V: Version>(lent: &mut Lent) -> Reply<u32> {
+    V::graph(lent.sheet.get(), lent.drawn.get_mut())
+}
+
+fn graph_read<V: Version>(lent: &mut Lent) -> Reply<u32> {
+    V::graph_read(lent.text.get(), lent.shown.get_mut())
 }

@@ -91,7 +91,12 @@ impl Groups {
     }
 
     pub fn members(&self, group: usize) -> impl Iterator<Item = usize> {
-        bits(self.members[group] as u64)
+        bits(self.member_mask(group) as u64)
+    }
+
+    /// A group's machines, as a mask.
+    pub fn member_mask(&self, group: usize) -> u32 {
+        self.members[group]
     }
 
     pub fn smallest_machine(&self, group: usize) -> usize {

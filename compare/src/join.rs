@@ -2,7 +2,7 @@
 
 use crate::command::{check_goal, LENGTH};
 use crate::sheet::{Sheet, MAX_MACHINES};
-use crate::{refuse, Reply};
+use crate::{front, refuse, Reply};
 
 /// So many goals are joined at most.
 pub const MAX_GOALS: usize = 8;
@@ -20,10 +20,7 @@ pub fn join(sheet: &[u8], goals: &[u8], out: &mut [u8]) -> Reply<usize> {
     if let Some(machine) = joined.iter().position(|&mask| mask == 0) {
         return refuse(19, machine);
     }
-    let Some(front) = out.get_mut(..longest) else {
-        return refuse(12, 0);
-    };
-    front.copy_from_slice(joined);
+    front(out, longest)?.copy_from_slice(joined);
     Ok(longest)
 }
 

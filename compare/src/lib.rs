@@ -7,9 +7,11 @@ pub mod calls;
 pub mod command;
 pub mod expected;
 pub mod faults;
+pub mod graph;
 pub mod groups;
 pub mod join;
 pub mod library;
+pub mod pictures;
 pub mod plan;
 pub mod random;
 pub mod records;
@@ -32,6 +34,12 @@ pub type Reply<T> = Result<T, Refusal>;
 pub fn refuse<T>(number: u32, place: usize) -> Reply<T> {
     let place = place as u32;
     Err(Refusal { number, place })
+}
+
+/// The front of a lent buffer, for an output of this length: 12 if the buffer is
+/// shorter.
+pub fn front(out: &mut [u8], length: usize) -> Reply<&mut [u8]> {
+    out.get_mut(..length).map_or_else(|| refuse(12, 0), Ok)
 }
 
 /// The members of a bit set, lowest first.

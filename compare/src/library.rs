@@ -41,6 +41,8 @@ extern "C" {
         out: *mut u8,
         out_n: usize,
     ) -> u64;
+    fn duty_graph(sheet: *const u8, n: usize, out: *mut u8, out_n: usize) -> u64;
+    fn duty_graph_read(text: *const u8, n: usize, out: *mut u8, out_n: usize) -> u64;
 }
 
 /// Splits a reply word: the refusal's number above, its place or the value below.
@@ -116,5 +118,13 @@ impl Version for Library {
                 out.len(),
             )
         })
+    }
+
+    fn graph(sheet: &[u8], out: &mut [u8]) -> Reply<u32> {
+        split(unsafe { duty_graph(sheet.as_ptr(), sheet.len(), out.as_mut_ptr(), out.len()) })
+    }
+
+    fn graph_read(text: &[u8], out: &mut [u8]) -> Reply<u32> {
+        split(unsafe { duty_graph_read(text.as_ptr(), text.len(), out.as_mut_ptr(), out.len()) })
     }
 }

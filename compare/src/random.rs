@@ -5,6 +5,7 @@ use crate::calls::{Lent, Slot};
 use crate::command::Command;
 use crate::groups::{Groups, MAX_GROUP_MODES};
 use crate::join::in_one_slice;
+use crate::pictures;
 use crate::plan::{BOUND, GROUP_NUMBERS, NO_ROUTE, SCRATCH, TABLE};
 use crate::samples::Builder;
 use crate::shape::Plan;
@@ -44,7 +45,8 @@ impl Random {
         self.below(times) == 0
     }
 
-    fn bytes(&mut self, length: usize) -> Vec<u8> {
+    /// So many bytes.
+    pub fn bytes(&mut self, length: usize) -> Vec<u8> {
         (0..length).map(|_| self.byte()).collect()
     }
 
@@ -200,7 +202,7 @@ pub fn sheet_bytes(random: &mut Random) -> Vec<u8> {
 
 impl Random {
     /// Some bytes, one at least and fewer than a limit.
-    fn byte_run(&mut self, limit: usize) -> Vec<u8> {
+    pub fn byte_run(&mut self, limit: usize) -> Vec<u8> {
         let length = 1 + self.below(limit - 1);
         self.bytes(length)
     }
@@ -487,17 +489,25 @@ fn written(
     plan.record(BOUND, &[0; 4]).end()
 }
 
-/// Everything lent for one round of calls. The scratch and the buffer of joining
+/// Everything lent for one round of calls. The scratch and the buffers for outputs
 /// are full of other bytes.
 pub fn lent(random: &mut Random) -> Lent {
     let bytes = sheet_bytes(random);
     let mut lent = Lent::sheet(&bytes);
-    let Ok(sheet) = Sheet::read(&bytes) else {
-        lent.wishes = Slot::new(&random.byte_run(20));
-        lent.out = Slot::new(&random.byte_run(MAX_MACHINES));
-        return lent;
-    };
-    let plan = plan(random, &bytes, &sheet);
+    match Sheet::read(&bytes) {
+        Ok(sheet) => lend(random, &sheet, &mut lent),
+        Err(_) => {
+            lent.wishes = Slot::new(&random.byte_run(20));
+            lent.out = Slot::new(&random.byte_run(MAX_MACHINES));
+        }
+    }
+    pictures::lend(random, &mut lent);
+    lent
+}
+
+/// Lends all that belongs to a sheet.
+fn lend(random: &mut Random, sheet: &Sheet, lent: &mut Lent) {
+    let plan = plan(random, lent.sheet.get(), sheet);
     let scratch = if random.once_in(40) {
         SCRATCH - 1
     } else {
@@ -505,10 +515,9 @@ pub fn lent(random: &mut Random) -> Lent {
     };
     lent.plan = Slot::new(&plan);
     lent.scratch = Slot::new(&vec![random.byte(); scratch]);
-    lent.state = Slot::new(&state(random, &sheet));
-    lent.goal = Slot::new(&goal(random, &sheet));
-    lent.command = command(random, &sheet);
-    lent.wishes = Slot::new(&wishes(random, &sheet));
-    lent.out = Slot::new(&room(random, &sheet));
-    lent
+    lent.state = Slot::new(&state(random, sheet));
+    lent.goal = Slot::new(&goal(random, sheet));
+    lent.command = command(random, sheet);
+    lent.wishes = Slot::new(&wishes(random, sheet));
+    lent.out = Slot::new(&room(random, sheet));
 }

@@ -2,6 +2,7 @@
 //! values are those of the C interface.
 
 use crate::command::{apply, next_command, Command, Effect, Next};
+use crate::graph;
 use crate::join::join;
 use crate::plan::{plan, plan_length};
 use crate::sheet::check_sheet;
@@ -28,6 +29,13 @@ pub trait Version {
     /// Joins goals, each lent after its length, and writes the joined one; the
     /// value is its length.
     fn join(sheet: &[u8], wishes: &[u8], out: &mut [u8]) -> Reply<u32>;
+
+    /// Writes the text of a sheet's picture; the value is its length.
+    fn graph(sheet: &[u8], out: &mut [u8]) -> Reply<u32>;
+
+    /// Reads such a text and writes its groups and edges; the value is how many
+    /// bytes these are.
+    fn graph_read(text: &[u8], out: &mut [u8]) -> Reply<u32>;
 }
 
 /// The version of this package.
@@ -58,5 +66,13 @@ impl Version for Rust {
 
     fn join(sheet: &[u8], wishes: &[u8], out: &mut [u8]) -> Reply<u32> {
         join(sheet, wishes, out).map(|length| length as u32)
+    }
+
+    fn graph(sheet: &[u8], out: &mut [u8]) -> Reply<u32> {
+        graph::draw(sheet, out).map(|length| length as u32)
+    }
+
+    fn graph_read(text: &[u8], out: &mut [u8]) -> Reply<u32> {
+        graph::read(text, out).map(|length| length as u32)
     }
 }
