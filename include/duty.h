@@ -10,7 +10,7 @@
  * if the call was accepted; the lower 32 are the refusal's place, or the value.
  *
  * The place is a byte of the sheet (1 to 8) or a machine (9, 13, 14, 16 to 19),
- * in 13 and 14 also 255 for a wrong length; in 10, 11, 12 and 15 it is 0.
+ * in 13 and 14 also 255 for a wrong length; in 10, 11, 12, 15 and 20 it is 0.
  */
 #ifndef DUTY_H
 #define DUTY_H
@@ -40,6 +40,10 @@ extern "C" {
 
 /* The most wishes that are joined. */
 #define DUTY_WISHES_MAX 8
+
+/* The longest text of a picture, and the most bytes that it is read as. */
+#define DUTY_GRAPH_MAX 7273
+#define DUTY_GRAPH_READ_MAX 1025
 
 /* Stands for the number of a move where a command changes nothing. */
 #define DUTY_NO_MOVE 255
@@ -85,6 +89,20 @@ uint64_t duty_apply(const uint8_t *sheet, size_t n, uint8_t *state, size_t state
  * behind it stay. Value: the length of the joined wish. */
 uint64_t duty_join(const uint8_t *sheet, size_t n, const uint8_t *wishes, size_t wishes_n,
                    uint8_t *out, size_t out_n);
+
+/* Draws who needs whom in the language of Graphviz: the sheet's groups, and an
+ * edge to each from each other group that its moves name (refusals 1 to 8, 12 if
+ * out is too short). The text stands at the front of out, with no zero behind it;
+ * the bytes there stay. docs/GRAPH.md has its layout. Value: the length of the
+ * text, at most DUTY_GRAPH_MAX. */
+uint64_t duty_graph(const uint8_t *sheet, size_t n, uint8_t *out, size_t out_n);
+
+/* Reads the text of a picture (refusals 20 unless it is, to the byte, what
+ * duty_graph writes of some sheet, then 12 if out is too short). At the front of
+ * out stand the machine count, each machine's group, then source and target of
+ * each edge in order; the bytes behind them stay. Value: how many bytes these
+ * are, at most DUTY_GRAPH_READ_MAX. */
+uint64_t duty_graph_read(const uint8_t *text, size_t n, uint8_t *out, size_t out_n);
 
 #ifdef __cplusplus
 }

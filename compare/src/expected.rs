@@ -1,10 +1,11 @@
-//! What is expected of commands and goals, straight from the lent bytes. The
-//! tests hold the versions against it.
+//! What is expected of commands, goals and edges, straight from the lent bytes.
+//! The tests hold the versions against it.
 
 use crate::both::{apply, next_command};
 use crate::command::{Command, Effect, Next};
 use crate::records::Records;
 use crate::walk::bound_of;
+use std::collections::BTreeSet;
 
 /// Whether a state meets a goal.
 pub fn meets(state: &[u8], goal: &[u8]) -> bool {
@@ -20,6 +21,22 @@ fn moves(sheet: &[u8]) -> impl Iterator<Item = &[u8]> {
     records
         .filter(|record| record.kind == 2)
         .map(|record| record.body)
+}
+
+/// For each group that a move of another names, the two numbers, needed group
+/// first; in order, each pair once.
+pub fn named_outside(sheet: &[u8], groups: &[u8]) -> Vec<u8> {
+    let group = |machine: u8| groups[machine as usize];
+    let named = |body: &[u8]| {
+        let target = group(body[0]);
+        let pairs = body[4..].chunks(2).map(|guard| [group(guard[0]), target]);
+        pairs.collect::<Vec<_>>()
+    };
+    let pairs: BTreeSet<_> = moves(sheet).flat_map(named).collect();
+    let outside = pairs
+        .into_iter()
+        .filter(|[source, target]| source != target);
+    outside.flatten().collect()
 }
 
 /// Whether a move is of a command's machine and byte, from the mode that the

@@ -2,7 +2,6 @@
 //! are read.
 
 use duty_compare::both::{graph, graph_read, own_text, shown};
-use duty_compare::faults::faulty_sheets;
 use duty_compare::graph::{MAX_READ, MAX_TEXT};
 use duty_compare::pictures::{any_drawing, Drawing};
 use duty_compare::random::{sheet, Random};
@@ -104,14 +103,6 @@ fn the_longest_text_has_7273_bytes() {
     let bytes = drawing.bytes();
     says(&text, &bytes);
     assert_eq!((bytes.len(), MAX_READ), (1025, 1025));
-}
-
-#[test]
-fn refusals_1_to_8_come_before_12() {
-    for (name, sheet, number, place) in faulty_sheets() {
-        let reply = graph(&sheet, &mut []);
-        assert_eq!(reply, refuse(number, place), "{name}");
-    }
 }
 
 /// Buffers of other bytes, shorter than an output, as long and longer: 12 leaves

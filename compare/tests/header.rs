@@ -3,9 +3,10 @@
 //! order; the header's largest sizes must be the largest, and its sign for no
 //! move must be that of applying.
 
-use duty_compare::both::{check_sheet, join, next_command, plan_length};
+use duty_compare::both::{check_sheet, graph, graph_read, join, next_command, plan_length};
 use duty_compare::command::{Effect, Next};
 use duty_compare::join::in_one_slice;
+use duty_compare::pictures::Drawing;
 use duty_compare::plan::SCRATCH;
 use duty_compare::refuse;
 use duty_compare::samples::{fullest, longest_plan, Builder};
@@ -57,7 +58,7 @@ fn passed(parameter: &str) -> Vec<String> {
     let other = WORDS.iter().find(|(source, _)| *source == word);
     let name = other.map_or(word, |(_, header)| header);
     let length = match name {
-        "sheet" => "n".to_string(),
+        "sheet" | "text" => "n".to_string(),
         _ => format!("{name}_n"),
     };
     let slice = |pointer| vec![format!("{name}: {pointer} u8"), format!("{length}: usize")];
@@ -148,7 +149,7 @@ fn declared_in_rust(source: &str) -> Functions {
 
 #[test]
 fn the_header_declares_what_the_source_exports() {
-    assert_eq!(exported(SOURCE).len(), 6);
+    assert_eq!(exported(SOURCE).len(), 8);
     assert_eq!(declared_in_c(HEADER), exported(SOURCE));
 }
 
@@ -179,6 +180,7 @@ fn a_difference_in_the_header_is_seen() {
             "const uint8_t *wishes, size_t wishes_n",
             "size_t wishes_n, const uint8_t *wishes",
         ),
+        ("const uint8_t *text", "uint8_t *text"),
         // A function left out, with another result, one more.
         ("uint64_t duty_sheet(const uint8_t *sheet, size_t n);", ""),
         ("uint64_t duty_next", "uint8_t duty_next"),
@@ -204,6 +206,7 @@ fn a_difference_in_the_source_or_in_this_package_is_seen() {
             "wishes: &[u8], out: &mut [u8]",
             "out: &mut [u8], wishes: &[u8]",
         ),
+        ("text: &[u8], out: &mut [u8]", "out: &mut [u8], text: &[u8]"),
     ];
     for (old, new) in edits {
         let source = edited(SOURCE, old, new);
@@ -256,6 +259,19 @@ fn the_longest_plan_in_shape_is_accepted() {
     let ask = |plan: &[u8]| next_command(&sheet, plan, &[0; 32], &[]);
     assert_eq!(ask(&plan), Ok(Next::Done));
     assert_eq!(ask(&[&plan[..], &[0]].concat()), refuse(15, 0));
+}
+
+/// 32 groups of one machine, each named by all behind it.
+#[test]
+fn the_longest_text_is_drawn_and_read() {
+    let sheet = Drawing::all_edges(32).sheet();
+    let mut text = vec![0; constant("DUTY_GRAPH_MAX")];
+    let length = text.len();
+    assert_eq!(graph(&sheet, &mut text), Ok(length));
+    assert_eq!(graph(&sheet, &mut text[1..]), refuse(12, 0));
+    let mut out = vec![0; constant("DUTY_GRAPH_READ_MAX")];
+    let most = out.len();
+    assert_eq!(graph_read(&text, &mut out), Ok(most));
 }
 
 /// 32 machines of one mode, each named by the most goals that are joined.

@@ -4,12 +4,15 @@
 use duty_compare::calls::{Call, Lent, Slot, CALLS};
 use duty_compare::command::Effect;
 use duty_compare::faults::faulty_sheets;
+use duty_compare::graph::MAX_TEXT;
+use duty_compare::pictures::own_text;
 use duty_compare::random::{lent, sheet_bytes, Random};
 use duty_compare::samples::{
     blocks, circle, dials, filter, fullest, longest_plan, product, snake, stove, Builder,
 };
 use duty_compare::shape::Plan;
 use duty_compare::sheet::Sheet;
+use duty_compare::version::Rust;
 use duty_compare::{refuse, Reply};
 use std::collections::BTreeMap;
 use std::fmt::{Display, Formatter};
@@ -52,7 +55,7 @@ fn agree(call: &Call, input: &Lent, what: &str) -> Reply<u32> {
 }
 
 /// The replies to all calls, in their order, in which both versions agree.
-fn replies(input: &Lent, what: &str) -> [Reply<u32>; 6] {
+fn replies(input: &Lent, what: &str) -> [Reply<u32>; CALLS.len()] {
     CALLS.each_ref().map(|call| agree(call, input, what))
 }
 
@@ -87,7 +90,10 @@ fn on_the_cases_and_extreme_sheets() {
         ("bound 2^32", product(&[4; 16], 1)),
     ];
     for (name, sheet) in &sheets {
-        all_agree(&Lent::sheet(sheet), name);
+        let mut input = Lent::sheet(sheet);
+        all_agree(&input, name);
+        input.drawn = Slot::new(&[0x69; MAX_TEXT]);
+        all_agree(&input, name);
     }
 }
 
@@ -113,7 +119,7 @@ fn on_every_byte_of_the_stove_changed_to_every_value() {
 /// How often each reply came up, over all calls.
 #[derive(Default)]
 struct Tally {
-    refused: [u64; 20],
+    refused: [u64; 21],
     unfit: u64,
     written: u64,
     done: u64,
@@ -122,11 +128,14 @@ struct Tally {
     /// Applied commands by the number of their move.
     moves: BTreeMap<u8, u64>,
     joined: [u64; 6],
+    /// Texts drawn and not, texts read and not.
+    drawn: [u64; 2],
+    read: [u64; 3],
 }
 
 impl Tally {
-    fn add(&mut self, input: &Lent, replies: [Reply<u32>; 6]) {
-        let [.., plan, next, apply, join] = replies;
+    fn add(&mut self, input: &Lent, replies: [Reply<u32>; CALLS.len()]) {
+        let [.., plan, next, apply, join, graph, graph_read] = replies;
         for refusal in replies.into_iter().filter_map(Reply::err) {
             self.refused[refusal.number as usize] += 1;
         }
@@ -142,6 +151,12 @@ impl Tally {
         if let Some(reply) = joined(join) {
             self.joined[reply] += 1;
         }
+        if let Some(reply) = pictured(graph) {
+            self.drawn[reply] += 1;
+        }
+        if let Some(reply) = pictured(graph_read) {
+            self.read[reply] += 1;
+        }
     }
 
     /// How often the least frequent came up; of the moves, the first eight count.
@@ -149,8 +164,15 @@ impl Tally {
         let others = [self.unfit, self.written, self.done, self.commands];
         let times = |number| self.moves.get(&number).copied().unwrap_or(0);
         let applied: Vec<u64> = (0..8).map(times).chain([self.unchanged]).collect();
-        let all = [&self.refused[1..], &others, &applied, &self.joined].concat();
-        all.into_iter().min()
+        let pictures = [&self.drawn[..], &self.read].concat();
+        let all = [
+            &self.refused[1..],
+            &others,
+            &applied,
+            &self.joined,
+            &pictures,
+        ];
+        all.concat().into_iter().min()
     }
 }
 
@@ -158,9 +180,10 @@ impl Display for Tally {
     fn fmt(&self, out: &mut Formatter) -> std::fmt::Result {
         write!(
             out,
-            "refused 1 to 19: {:?}, 15 for an entry: {}, plans written: {}, done: {}, \
+            "refused 1 to 20: {:?}, 15 for an entry: {}, plans written: {}, done: {}, \
              commands: {}, changed: {} by {} moves, unchanged: {}, joining (empty, other, \
-             14 for a length, 14 at a machine, 19, 12): {:?}",
+             14 for a length, 14 at a machine, 19, 12): {:?}, drawing (a text, 12): {:?}, \
+             reading (a picture, 12, 20): {:?}",
             &self.refused[1..],
             self.unfit,
             self.written,
@@ -169,7 +192,9 @@ impl Display for Tally {
             self.moves.values().sum::<u64>(),
             self.moves.len(),
             self.unchanged,
-            self.joined
+            self.joined,
+            self.drawn,
+            self.read
         )
     }
 }
@@ -191,6 +216,17 @@ fn joined(reply: Reply<u32>) -> Option<usize> {
         Err((14, _)) => Some(3),
         Err((19, _)) => Some(4),
         Err((12, _)) => Some(5),
+        Err(_) => None,
+    }
+}
+
+/// Which reply of drawing or of reading a picture one is: accepted, 12, 20; none
+/// for a refused sheet.
+fn pictured(reply: Reply<u32>) -> Option<usize> {
+    match reply.map_err(|refusal| refusal.number) {
+        Ok(_) => Some(0),
+        Err(12) => Some(1),
+        Err(20) => Some(2),
         Err(_) => None,
     }
 }
@@ -234,6 +270,29 @@ fn on_every_short_slice_of_wishes() {
         }
     }
     assert!(seen.iter().all(|&times| times > 0), "{seen:?}");
+}
+
+/// The stove's text with any bytes taken out between two places, or put in from
+/// there once more.
+#[test]
+fn on_every_passage_of_a_text_left_out_or_doubled() {
+    let text = own_text::<Rust>(&stove()).expect("a text");
+    let read = Call::named("graph_read").expect("a call");
+    let mut input = Lent::sheet(&[]);
+    input.shown = Slot::new(&[9; 8]);
+    let mut seen = [0; 3];
+    for end in 0..=text.len() {
+        for start in 0..=end {
+            let less = [&text[..start], &text[end..]].concat();
+            let more = [&text[..end], &text[start..]].concat();
+            for bytes in [less, more] {
+                input.text = Slot::new(&bytes);
+                let reply = pictured(agree(read, &input, "a passage"));
+                seen[reply.expect("no sheet is judged")] += 1;
+            }
+        }
+    }
+    assert!(seen[0] > 0 && seen[2] > 0, "{seen:?}");
 }
 
 #[test]

@@ -1,16 +1,20 @@
 //! The Rust version by itself on random rounds of every call.
 
-use duty_compare::calls::CALLS;
+use duty_compare::calls::{Call, Lent, Slot, CALLS};
 use duty_compare::command::{apply, Effect};
-use duty_compare::expected::{effect, meets};
+use duty_compare::expected::{effect, meets, named_outside};
 use duty_compare::join::{in_one_slice, join};
+use duty_compare::pictures::{own_text, shown};
 use duty_compare::random::{goals, lent, sheet, Random};
 use duty_compare::sheet::{Sheet, MAX_MACHINES, MAX_MOVES};
+use duty_compare::version::Rust;
+use duty_compare::walk::own_plan;
+use duty_compare::Reply;
 
 /// Also shows that the rounds try every refusal there is.
 #[test]
 fn refused_calls_change_no_lent_byte() {
-    let mut seen = [0; 20];
+    let mut seen = [0; 21];
     for seed in 0..20_000 {
         let input = lent(&mut Random::new(seed));
         for call in &CALLS {
@@ -26,12 +30,18 @@ fn refused_calls_change_no_lent_byte() {
             seen[number as usize] += 1;
         }
     }
-    let missed: Vec<_> = (1..20).filter(|&number| seen[number] < 20).collect();
+    let missed: Vec<_> = (1..21).filter(|&number| seen[number] < 20).collect();
     assert_eq!(missed, [], "seldom or never refused so: {seen:?}");
 }
 
-/// What of a call may be written: nothing but plan, scratch, state and the front
-/// of the buffer for joined goals.
+/// The bytes of a buffer behind an output of a call of this name.
+fn behind<'a>(buffer: &'a Slot, name: &str, call: &Call, reply: Reply<u32>) -> &'a [u8] {
+    let written = if call.name == name { reply } else { Ok(0) };
+    &buffer.get()[written.unwrap_or(0) as usize..]
+}
+
+/// What of a call may be written: nothing but plan, scratch, state and the fronts
+/// of the buffers for outputs.
 #[test]
 fn accepted_calls_write_where_they_should() {
     for seed in 0..5_000 {
@@ -61,16 +71,15 @@ fn accepted_calls_write_where_they_should() {
                 },
                 "seed {seed}"
             );
-            let front = match (call.name, reply) {
-                ("join", Ok(length)) => length as usize,
-                _ => 0,
+            assert_eq!(after.text, input.text, "seed {seed}: {}", call.name);
+            let outputs = |lent: &Lent| {
+                let behind = |buffer, name| behind(buffer, name, call, reply).to_vec();
+                let joined = behind(&lent.out, "join");
+                let drawn = behind(&lent.drawn, "graph");
+                [joined, drawn, behind(&lent.shown, "graph_read")]
             };
-            assert_eq!(
-                after.out.get()[front..],
-                input.out.get()[front..],
-                "seed {seed}: {}",
-                call.name
-            );
+            let (left, lent) = (outputs(&after), outputs(&input));
+            assert_eq!(left, lent, "seed {seed}: {}", call.name);
         }
     }
 }
@@ -119,6 +128,27 @@ fn a_state_meets_the_joined_goal_exactly_if_it_meets_each() {
         }
     }
     assert!(seen.iter().all(|&times| times > 1000), "{seen:?}");
+}
+
+/// Also shows that the rounds draw groups of several machines and many edges.
+#[test]
+fn pictures_show_the_groups_of_the_plan_and_the_needs_of_the_moves() {
+    let (mut several, mut edges) = (0, 0);
+    for seed in 0..5_000 {
+        let bytes = sheet(&mut Random::new(seed));
+        let text = own_text::<Rust>(&bytes).expect("a text");
+        let picture = shown::<Rust>(&text).expect("a picture");
+        let machines = picture[0] as usize;
+        let (groups, named) = picture[1..].split_at(machines);
+        assert_eq!(named, named_outside(&bytes, groups), "seed {seed}");
+        edges += named.len() / 2;
+        if let Ok(plan) = own_plan::<Rust>(&bytes) {
+            assert_eq!(groups, &plan[4..4 + machines], "seed {seed}");
+            let all_apart = groups.contains(&(machines as u8 - 1));
+            several += !all_apart as u32;
+        }
+    }
+    assert!(several > 500 && edges > 10_000, "{several} {edges}");
 }
 
 #[test]

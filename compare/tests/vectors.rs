@@ -5,6 +5,7 @@
 use duty_compare::calls::{Call, Lent, Side, Slot};
 use duty_compare::command::{Command, Effect, Next};
 use duty_compare::library::Library;
+use duty_compare::pictures::{own_text, shown, Drawing};
 use duty_compare::version::{Rust, Version};
 use duty_compare::walk::walk;
 use duty_compare::{refuse, Reply};
@@ -37,7 +38,7 @@ const FIRST: Recording = Recording {
 const LATEST: Recording = Recording {
     setting: "DUTY_TICKET_VECTORS",
     folder: "ticket-vectors",
-    file: "L2.txt",
+    file: "L3.txt",
     moves: true,
 };
 
@@ -206,7 +207,16 @@ fn to(machine: &str, command: &str) -> Command {
 
 /// The calls of a file with their replies.
 fn calls(text: &str) -> Vec<(&str, &str)> {
-    recorded(text, |item| !is_walk(item))
+    recorded(text, |item| !is_walk(item) && !is_graph(item))
+}
+
+/// The pictures of a file with what they show.
+fn graphs(text: &str) -> Vec<(&str, &str)> {
+    recorded(text, is_graph)
+}
+
+fn is_graph(item: &str) -> bool {
+    item.starts_with("graph ")
 }
 
 /// The walks of a file with what they print.
@@ -344,6 +354,59 @@ fn latest_walks_agree_with_the_rust_version() {
 #[test]
 fn latest_walks_agree_with_the_library() {
     latest_walks_agree::<Library>();
+}
+
+/// What a recorded picture shows: `graph SHEET = GROUPS EDGES`, groups in order as
+/// `0,2;1`, edges in order as `0>1,0>2`, or `-` for none.
+fn drawing(picture: &str) -> Drawing {
+    let [groups, edges] = fields(picture)[..] else {
+        panic!("unknown picture {picture}");
+    };
+    let machines = |group: &str| group.split(',').map(number).collect();
+    let edge = |edge: &str| {
+        let ends = edge.split_once('>').expect("an edge");
+        [number(ends.0), number(ends.1)]
+    };
+    Drawing {
+        groups: groups.split(';').map(machines).collect(),
+        edges: match edges {
+            "-" => vec![],
+            _ => edges.split(',').map(edge).collect(),
+        },
+    }
+}
+
+/// Draws every recorded picture in one version and reads it back.
+fn graphs_agree<V: Version>() {
+    let Some(text) = LATEST.text() else { return };
+    let (blobs, graphs) = (Blobs::read(&text), graphs(&text));
+    for (item, picture) in &graphs {
+        let sheet = &blobs.by_name[fields(item)[1]];
+        let drawing = drawing(picture);
+        let text = own_text::<V>(sheet);
+        assert_eq!(text, Ok(drawing.text().into_bytes()), "{item}");
+        assert_eq!(
+            text.and_then(|text| shown::<V>(&text)),
+            Ok(drawing.bytes()),
+            "{item}"
+        );
+    }
+    say(format!(
+        "{} recorded pictures of {} agree with {}",
+        graphs.len(),
+        LATEST.file,
+        V::NAME
+    ));
+}
+
+#[test]
+fn recorded_pictures_agree_with_the_rust_version() {
+    graphs_agree::<Rust>();
+}
+
+#[test]
+fn recorded_pictures_agree_with_the_library() {
+    graphs_agree::<Library>();
 }
 
 /// What a walk prints without its moves, as the case folders have it: each
