@@ -138,6 +138,11 @@ walk_says() {
     (cd "$1" && "$root/target/bin/walk") | "${2:-cat}" | diff "$1/expect.txt" -
 }
 
+# Runs graph in a folder that has graph.dot and compares what it prints.
+graph_says() {
+    ./graph "$1" | diff "$1/graph.dot" -
+}
+
 # A walk without its moves: each command line must end with a third number, which
 # is left out; any other line stays to the letter.
 without_moves() {
@@ -165,6 +170,12 @@ launched() {
     if [ -z "$words" ]; then [ ! -s "$work/words" ]; else grep -q "^$words" "$work/words"; fi
 }
 
+# Runs a launcher that writes nothing on standard output.
+prints_nothing() {
+    "$@" >"$work/out"
+    [ ! -s "$work/out" ]
+}
+
 # Runs a launcher whose output can not be written.
 unwritten() {
     "$@" >/dev/full
@@ -173,25 +184,29 @@ unwritten() {
 # Runs a launcher where neither a program nor rt is at hand.
 without_rt() {
     mkdir -p "$work/fresh" "$work/few" "$work/folder"
-    cp launch show walk "$work/fresh"
+    cp launch show walk graph "$work/fresh"
     ln -sf "$(command -v dirname)" "$work/few"
     PATH=$work/few "$work/fresh/$1" "$work/folder"
 }
 
-# Tries the launchers show and walk.
+# Tries the launchers. What graph prints is for dot, so it tells a refusal on
+# standard error.
 launcher_checks() {
-    local name
-    for name in show walk; do
+    local name refused
+    for name in show walk graph; do
+        refused=
+        if [ "$name" = graph ]; then refused="graph: refused"; fi
         check "./$name builds its program" "./$name"
         check "./$name on the stove" launched 0 "" "./$name" examples/stove
         check "./$name on the kitchen by itself" launched 0 "" "./$name"
-        check "./$name on an empty folder" launched 1 "" "./$name" "$work/none"
-        check "./$name on a faulty sheet" launched 1 "" "./$name" examples/refused
+        check "./$name on an empty folder" launched 1 "${refused:+$refused 1 0: }" "./$name" "$work/none"
+        check "./$name on a faulty sheet" launched 1 "${refused:+$refused 7 58: }" "./$name" examples/refused
         check "./$name on a missing folder" launched 2 "$name: no folder" "./$name" "$work/missing"
         check "./$name on a file" launched 2 "$name: no folder" "./$name" README.md
         check "./$name without room for its output" launched 2 "$name: the output" unwritten "./$name"
         check "./$name without rt" launched 2 "$name: no rt" without_rt "$name"
     done
+    check "./graph prints nothing for a faulty sheet" prints_nothing ./graph examples/refused
 }
 
 # A sheet in a folder of its own: so many machines of eight modes, then one of
@@ -224,6 +239,7 @@ panel_folders
 check "static library" rt staticlib panel
 check "show" rt check show
 check "walk" rt check walk
+check "graph" rt check graph
 cut="a record is cut short, or the end is missing"
 check "show reads a long file whole" show_says "$work/long" "refused 2 0: a record of unknown kind or wrong length"
 check "show sees that a long file is cut" show_says "$work/cut" "refused 1 0: $cut"
@@ -238,6 +254,9 @@ for walk in examples/walks/*/; do
     check "walk on $walk" walk_says "$walk"
 done
 if [ -n "${DUTY_WALKS:-}" ]; then check "walk on every recorded case" recorded_walks; fi
+for folder in stove kitchen; do
+    check "graph on the $folder" graph_says "examples/$folder"
+done
 launcher_checks
 cargo_tests
 check "the archive has the duty_ functions and no other symbol" only_exports

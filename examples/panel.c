@@ -1,5 +1,5 @@
-/* A wall panel to start from: plans a kitchen's sheet, then asks for the next
- * command and obeys it until the wish is met.
+/* A wall panel to start from: draws who needs whom in a kitchen's sheet, plans it,
+ * then asks for the next command and obeys it until the wish is met.
  *
  *     rt staticlib panel
  *     gcc -std=c11 -Wall -Wextra -Werror -Iinclude examples/panel.c \
@@ -136,6 +136,7 @@ static const struct cause {
     [17] = {MACHINE, "its group has no way to what is wished"},
     [18] = {MACHINE, "its group could be stranded on the way"},
     [19] = {MACHINE, "the wishes leave it no mode"},
+    [20] = {NOWHERE, "the text is no sheet's picture"},
 };
 
 /* The place that stands for a wrong length. */
@@ -177,6 +178,39 @@ static bool check(const struct kitchen *k)
     return true;
 }
 
+static void say_bytes(struct bytes b)
+{
+    for (size_t i = 0; i < b.n; i++)
+        printf(" %u", b.at[i]);
+    printf("\n");
+}
+
+/* Reads the text of a picture, and says how many edges it has and which group
+ * each machine is of. */
+static bool read_back(struct bytes text)
+{
+    static uint8_t out[DUTY_GRAPH_READ_MAX];
+    uint64_t reply = duty_graph_read(text.at, text.n, out, sizeof out);
+    if (refused(reply))
+        return false;
+    struct bytes groups = {out + 1, out[0]};
+    printf("edges: %u, groups:", (unsigned)(duty_value(reply) - 1 - groups.n) / 2);
+    say_bytes(groups);
+    return true;
+}
+
+/* Draws who needs whom, for Graphviz, and reads the picture back. */
+static bool draw(const struct kitchen *k)
+{
+    static uint8_t text[DUTY_GRAPH_MAX];
+    uint64_t reply = duty_graph(k->sheet.at, k->sheet.n, text, sizeof text);
+    if (refused(reply))
+        return false;
+    struct bytes drawn = {text, duty_value(reply)};
+    fwrite(drawn.at, 1, drawn.n, stdout);
+    return read_back(drawn);
+}
+
 /* Makes the plan in a buffer of its length. */
 static bool plan(struct kitchen *k)
 {
@@ -207,13 +241,6 @@ static void add_wish(struct bytes *lent, struct bytes wish)
     lent->at[lent->n] = (uint8_t)n;
     memcpy(lent->at + lent->n + 1, wish.at, n);
     lent->n += n + 1;
-}
-
-static void say_bytes(struct bytes b)
-{
-    for (size_t i = 0; i < b.n; i++)
-        printf(" %u", b.at[i]);
-    printf("\n");
 }
 
 /* Joins the wishes that there are into the one that is asked for, and says it. */
@@ -298,7 +325,7 @@ int main(int argc, char **argv)
         .state = read_file(folder, "state.bin"),
     };
     read_wishes(&k, folder);
-    bool done = check(&k) && plan(&k) && settle(&k) && fulfil(&k);
+    bool done = check(&k) && draw(&k) && plan(&k) && settle(&k) && fulfil(&k);
     free(k.sheet.at);
     free(k.plan.at);
     free(k.state.at);
