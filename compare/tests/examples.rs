@@ -1,7 +1,7 @@
 //! The example kitchens, in both versions: their bytes, and what is claimed of
 //! them.
 
-use duty_compare::both::{check_sheet, join, own_plan, walk};
+use duty_compare::both::{check_sheet, join, own_plan, own_text, shown, walk};
 use duty_compare::expected::{meets, obeyed};
 use duty_compare::join::in_one_slice;
 use duty_compare::random::Random;
@@ -87,6 +87,17 @@ fn the_kitchen_has_layers_and_groups() {
         Some(&3),
         "layers of need above the supplies"
     );
+}
+
+#[test]
+fn the_stove_and_the_kitchen_are_drawn_as_stored() {
+    let drawn = |sheet: &[u8]| own_text(sheet).expect("a text");
+    let stored = include_bytes!("../../examples/stove/graph.dot");
+    assert_eq!(drawn(&stove()), stored);
+    let stored = include_bytes!("../../examples/kitchen/graph.dot");
+    assert_eq!(drawn(KITCHEN), stored);
+    // Of twenty machines and 29 edges.
+    assert_eq!(shown(stored).map(|bytes| bytes.len()), Ok(1 + 20 + 2 * 29));
 }
 
 #[test]

@@ -6,8 +6,11 @@
 
 use duty_compare::calls::{Call, Lent, Side, Slot, CALLS};
 use duty_compare::command::Command;
+use duty_compare::graph::MAX_READ;
 use duty_compare::join::{in_one_slice, MAX_GOALS};
+use duty_compare::pictures::{own_text, Drawing};
 use duty_compare::plan::SCRATCH;
+use duty_compare::random::{self, Random};
 use duty_compare::samples::{blocks, chain, dials, fullest, stove};
 use duty_compare::sheet::{Sheet, MAX_MACHINES};
 use duty_compare::version::{Rust, Version};
@@ -20,29 +23,36 @@ use std::time::{Duration, Instant};
 const SAMPLES: usize = 301;
 const SAMPLE: Duration = Duration::from_micros(100);
 
+/// The seed of the random sheet.
+const RANDOM: u64 = 2611;
+
 const KITCHEN: &[u8] = include_bytes!("../../../examples/kitchen/sheet.bin");
 
 struct Input {
     name: &'static str,
-    /// The one call that it is for; none means all of them.
-    only: Option<&'static str>,
+    /// The calls that it is for; none means all of them.
+    only: &'static [&'static str],
     lent: Lent,
 }
 
 impl Input {
     fn new(name: &'static str, sheet: &[u8]) -> Self {
-        let (only, lent) = (None, prepared(sheet));
+        let (only, lent) = ([].as_slice(), prepared(sheet));
         Input { name, only, lent }
     }
 
-    fn only(self, call: &'static str) -> Self {
-        let only = Some(call);
+    fn only(self, only: &'static [&'static str]) -> Self {
         Input { only, ..self }
+    }
+
+    /// For drawing and for reading the picture alone.
+    fn drawn(name: &'static str, sheet: &[u8]) -> Self {
+        Input::new(name, sheet).only(&["graph", "graph_read"])
     }
 
     /// For the next command alone, from a state toward a goal.
     fn asked(name: &'static str, sheet: &[u8], state: &[u8], goal: &[u8]) -> Self {
-        let mut input = Input::new(name, sheet).only("next");
+        let mut input = Input::new(name, sheet).only(&["next"]);
         input.lent.state = Slot::new(state);
         input.lent.goal = Slot::new(goal);
         input
@@ -50,13 +60,13 @@ impl Input {
 
     /// For joining alone, of these goals.
     fn joined<G: AsRef<[u8]>>(name: &'static str, sheet: &[u8], goals: &[G]) -> Self {
-        let mut input = Input::new(name, sheet).only("join");
+        let mut input = Input::new(name, sheet).only(&["join"]);
         input.lent.wishes = Slot::new(&in_one_slice(goals));
         input
     }
 
     fn serves(&self, call: &Call) -> bool {
-        self.only.is_none_or(|name| name == call.name)
+        self.only.is_empty() || self.only.contains(&call.name)
     }
 }
 
@@ -67,11 +77,12 @@ fn inputs() -> Vec<Input> {
         Input::new("kitchen", KITCHEN),
         Input::new("four-of-64", &blocks(4, 0, true)),
         Input::new("five-dials", &dials(5)),
-        Input::new("six-dials", &dials(6)).only("plan"),
+        Input::new("six-dials", &dials(6)).only(&["plan"]),
         Input::asked("kitchen-done", KITCHEN, &[0; 20], &[]),
     ];
     inputs.extend(chains());
     inputs.extend(eight_wishes());
+    inputs.extend(pictures());
     inputs
 }
 
@@ -110,15 +121,34 @@ fn eight_wishes() -> [Input; 2] {
     ]
 }
 
+/// A random sheet of 28 machines and 250 moves, in 20 groups with 70 edges; the
+/// longest text, of 32 groups and all 496 edges; and that text with its last edge
+/// twice, refused as 20.
+fn pictures() -> [Input; 3] {
+    let longest = Drawing::all_edges(MAX_MACHINES as u8);
+    let mut twice = Input::new("edge-twice", &longest.sheet()).only(&["graph_read"]);
+    let mut edges = longest.edges.clone();
+    edges.extend(longest.edges.last());
+    let groups = longest.groups.clone();
+    twice.lent.text = Slot::new(Drawing { groups, edges }.text().as_bytes());
+    [
+        Input::drawn("random", &random::sheet(&mut Random::new(RANDOM))),
+        Input::drawn("all-edges", &longest.sheet()),
+        twice,
+    ]
+}
+
 /// A sheet with its own plan, or zeros as long where there is none, every
-/// machine in mode 0 and wanted in mode 1, the command of the first move, and a
-/// second goal to be joined: mode 0 or 1 for the first half of the machines.
+/// machine in mode 0 and wanted in mode 1, the command of the first move, a
+/// second goal to be joined: mode 0 or 1 for the first half of the machines; and
+/// the text of its picture, with buffers for this and for what it says.
 fn prepared(bytes: &[u8]) -> Lent {
     let sheet = Sheet::read(bytes).expect("a sheet");
     let length = Rust::plan_length(bytes).unwrap_or(0);
     let goal = vec![2; sheet.machines()];
     let other = vec![3; sheet.machines() / 2];
     let first = sheet.step(0);
+    let text = own_text::<Rust>(bytes).expect("a text");
     Lent {
         plan: Slot::new(&own_plan::<Rust>(bytes).unwrap_or(vec![0; length as usize])),
         scratch: Slot::new(&[0; SCRATCH]),
@@ -130,6 +160,9 @@ fn prepared(bytes: &[u8]) -> Lent {
         },
         wishes: Slot::new(&in_one_slice(&[goal, other])),
         out: Slot::new(&vec![0; sheet.machines()]),
+        drawn: Slot::new(&vec![0; text.len()]),
+        text: Slot::new(&text),
+        shown: Slot::new(&[0; MAX_READ]),
         ..Lent::sheet(bytes)
     }
 }
