@@ -201,8 +201,31 @@ fn numbers_that_would_wrap_are_none() {
         is_none(&edited(STOVE, "-> g1", &format!("-> g{number}")));
         is_none(&edited(STOVE, "g1 [", &format!("g{number} [")));
     }
-    // 2^64 + 1, in place of 1.
-    is_none(&edited(STOVE, "-> g1", "-> g18446744073709551617"));
+    // One more than 2^8, 2^16, 2^32 and 2^64, in place of 1.
+    for number in ["257", "65537", "4294967297", "18446744073709551617"] {
+        is_none(&edited(STOVE, "1 2", &format!("{number} 2")));
+        is_none(&edited(STOVE, "-> g1", &format!("-> g{number}")));
+        is_none(&edited(STOVE, "g1 [", &format!("g{number} [")));
+    }
+}
+
+/// Also with as many numbers more as let a count of 8 or 16 bits begin again.
+#[test]
+fn long_texts_are_none() {
+    for times in [256, 65_536, 100_000] {
+        is_none(&edited(STOVE, "1 2", &format!("1 2{}", " 2".repeat(times))));
+        is_none(&edited(
+            STOVE,
+            "-> g1",
+            &format!("-> g{}", "1".repeat(times)),
+        ));
+        let edge = "  g0 -> g1;\n";
+        is_none(&edited(STOVE, edge, &edge.repeat(times + 1)));
+        let node = "  g1 [label=\"1 2\"];\n";
+        is_none(&edited(STOVE, node, &node.repeat(times + 1)));
+        is_none(&[STOVE, &"\n".repeat(times)].concat());
+        is_none(&"  g0 [label=\"0".repeat(times));
+    }
 }
 
 #[test]
