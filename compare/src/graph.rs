@@ -109,7 +109,7 @@ impl Picture {
 
     /// Writes the text into a buffer of its length.
     fn write_text(&self, out: &mut [u8]) {
-        let mut pen = Pen { rest: out };
+        let mut pen = Pen { out, at: 0 };
         pen.put(FIRST_LINE);
         for (group, &members) in self.members[..self.count].iter().enumerate() {
             pen.put(GROUP);
@@ -118,13 +118,15 @@ impl Picture {
             pen.numbers(members);
             pen.put(LABEL_END);
         }
-        self.edges().for_each(|[source, target]| {
-            pen.put(GROUP);
-            pen.number(source);
-            pen.put(ARROW);
-            pen.number(target);
-            pen.put(EDGE_END);
-        });
+        for (source, &targets) in self.targets[..self.count].iter().enumerate() {
+            for target in bits(targets as u64) {
+                pen.put(GROUP);
+                pen.number(source);
+                pen.put(ARROW);
+                pen.number(target);
+                pen.put(EDGE_END);
+            }
+        }
         pen.put(LAST_LINE);
     }
 
@@ -159,20 +161,16 @@ impl Picture {
     fn parse(text: &[u8]) -> Option<Self> {
         let mut text = Text { rest: text };
         let mut picture = Picture::empty();
-        let mut last_edge = None;
         text.skip(FIRST_LINE)?;
+        while text.opens_node(picture.count) {
+            picture.add_node(text.label()?)?;
+        }
+        let mut last = None;
         while text.takes(GROUP) {
-            let group = text.number()?;
-            if text.takes(LABEL) {
-                let next = last_edge.is_none() && group == picture.count;
-                next.then_some(())?;
-                picture.add_node(text.label()?)?;
-            } else {
-                let edge = Some((group, text.arrow()?));
-                (last_edge < edge).then_some(())?;
-                last_edge = edge;
-                picture.add_edge(edge?)?;
-            }
+            let edge = (text.number()?, text.arrow()?);
+            (last < Some(edge)).then_some(())?;
+            picture.add_edge(edge)?;
+            last = Some(edge);
         }
         text.skip(LAST_LINE)?;
         (text.rest.is_empty() && gapless(picture.machines())).then_some(picture)
@@ -219,29 +217,45 @@ fn gapless(set: u32) -> bool {
     set != 0 && set & set.wrapping_add(1) == 0
 }
 
+/// The digits of each number; the second one of a single digit does not count.
+const NUMBERS: [[u8; 2]; MAX_MACHINES] = {
+    let mut numbers = [[0; 2]; MAX_MACHINES];
+    let mut number = 0;
+    while number < MAX_MACHINES {
+        let ones = b'0' + number as u8 % 10;
+        numbers[number] = match number as u8 / 10 {
+            0 => [ones, 0],
+            tens => [b'0' + tens, ones],
+        };
+        number += 1;
+    }
+    numbers
+};
+
 /// Writes a text front to back into a buffer that is long enough.
 struct Pen<'a> {
-    rest: &'a mut [u8],
+    out: &'a mut [u8],
+    at: usize,
 }
 
 impl Pen<'_> {
     #[inline]
     fn put<const N: usize>(&mut self, words: &[u8; N]) {
-        let rest = std::mem::take(&mut self.rest);
-        let (place, rest) = rest.split_first_chunk_mut().expect("room");
-        *place = *words;
-        self.rest = rest;
+        self.put_front(words, N);
     }
 
-    /// A number of one digit or two.
+    /// Puts words of which so many bytes count. There is room for the others, as
+    /// something comes behind them that is put in their place.
+    #[inline]
+    fn put_front<const N: usize>(&mut self, words: &[u8; N], count: usize) {
+        let rest = &mut self.out[self.at..];
+        *rest.first_chunk_mut().expect("room") = *words;
+        self.at += count;
+    }
+
     #[inline]
     fn number(&mut self, number: usize) {
-        let (tens, ones) = (number as u8 / 10, number as u8 % 10);
-        if tens == 0 {
-            self.put(&[b'0' + ones]);
-        } else {
-            self.put(&[b'0' + tens, b'0' + ones]);
-        }
+        self.put_front(&NUMBERS[number], digits(1 << number));
     }
 
     /// The numbers of a set, with a space between two.
@@ -264,10 +278,13 @@ impl Text<'_> {
     /// Passes over these words, if they come next.
     #[inline]
     fn takes<const N: usize>(&mut self, words: &[u8; N]) -> bool {
-        let split = self.rest.split_first_chunk();
-        let next = split.filter(|(next, _)| *next == words);
-        self.rest = next.map_or(self.rest, |(_, rest)| rest);
-        next.is_some()
+        match self.rest.split_first_chunk() {
+            Some((next, rest)) if next == words => {
+                self.rest = rest;
+                true
+            }
+            _ => false,
+        }
     }
 
     /// Passes over these words, which must come next.
@@ -276,23 +293,32 @@ impl Text<'_> {
         self.takes(words).then_some(())
     }
 
-    #[inline]
-    fn digit(&mut self) -> Option<usize> {
-        let (&byte, rest) = self.rest.split_first()?;
-        byte.is_ascii_digit().then_some(())?;
-        self.rest = rest;
-        Some((byte - b'0') as usize)
-    }
-
-    /// A number below 32. No digit may follow it, and in no place of a text does
-    /// one: so a number has no more digits than it needs.
+    /// A number below 32, with no more digits than it needs: a third digit, or one
+    /// behind a 0, is left, and nothing that may follow a number is a digit. Some
+    /// byte does follow.
     #[inline]
     fn number(&mut self) -> Option<usize> {
-        let number = match self.digit()? {
-            0 => 0,
-            first => self.digit().map_or(first, |second| 10 * first + second),
+        let [first, second] = self
+            .rest
+            .first_chunk()?
+            .map(|byte: u8| byte.wrapping_sub(b'0'));
+        let (number, length) = match (first, second) {
+            (1..=9, 0..=9) => (10 * first + second, 2),
+            (0..=9, _) => (first, 1),
+            _ => return None,
         };
-        (number < MAX_MACHINES).then_some(number)
+        self.rest = &self.rest[length..];
+        ((number as usize) < MAX_MACHINES).then_some(number as usize)
+    }
+
+    /// Passes over the beginning of the node of this number, if that comes next.
+    fn opens_node(&mut self, number: usize) -> bool {
+        let mut ahead = Text { rest: self.rest };
+        let opens = ahead.takes(GROUP) && ahead.number() == Some(number) && ahead.takes(LABEL);
+        if opens {
+            self.rest = ahead.rest;
+        }
+        opens
     }
 
     /// The rest of a node: its machines, rising, as a mask.
