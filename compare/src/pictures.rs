@@ -65,6 +65,19 @@ impl Drawing {
         self
     }
 
+    /// Swaps the numbers of two groups, in the edges too.
+    fn renumber(&mut self, one: usize, other: usize) {
+        self.groups.swap(one, other);
+        let (one, other) = (one as u8, other as u8);
+        for end in self.edges.as_flattened_mut() {
+            *end = match *end {
+                end if end == one => other,
+                end if end == other => one,
+                end => end,
+            };
+        }
+    }
+
     pub fn text(&self) -> String {
         let label = |machines: &Vec<u8>| {
             let numbers: Vec<_> = machines.iter().map(u8::to_string).collect();
@@ -182,12 +195,13 @@ fn text(random: &mut Random, sheet: Option<&Sheet>) -> Vec<u8> {
 fn change(random: &mut Random, drawing: &mut Drawing) {
     let groups = drawing.groups.len();
     let (group, other) = (random.below(groups), random.below(groups));
-    match random.below(8) {
+    match random.below(9) {
         0 => drawing.groups.swap(group, other),
-        1 => drawing.groups[group].reverse(),
-        2 => drawing.groups[group].push(random.below(MAX_MACHINES + 2) as u8),
-        3 => drawing.groups[group].clear(),
-        4 => drawing.edges.push([group as u8, other as u8]),
+        1 => drawing.renumber(group, other),
+        2 => drawing.groups[group].reverse(),
+        3 => drawing.groups[group].push(random.below(MAX_MACHINES + 2) as u8),
+        4 => drawing.groups[group].clear(),
+        5 => drawing.edges.push([group as u8, other as u8]),
         _ => change_edge(random, &mut drawing.edges),
     }
     if random.once_in(2) {

@@ -2,7 +2,7 @@
 //! its place.
 
 use duty_compare::both::{
-    apply, check_sheet, graph, join, next_command, own_plan, plan, plan_length, walk,
+    apply, check_sheet, graph, graph_read, join, next_command, own_plan, plan, plan_length, walk,
 };
 use duty_compare::command::Command;
 use duty_compare::faults::faulty_sheets;
@@ -224,6 +224,11 @@ fn refusal_12_for_a_buffer_shorter_than_the_joined_goal() {
 #[test]
 fn refusal_15_for_an_empty_plan() {
     assert_eq!(next_command(&stove(), &[], &[9], &[]), refuse(15, 0));
+}
+
+#[test]
+fn refusal_20_for_an_empty_text() {
+    assert_eq!(graph_read(&[], &mut []), refuse(20, 0));
 }
 
 /// Power with a failed mode, an oven with one, and a tray; each needs the one
