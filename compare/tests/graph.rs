@@ -1,7 +1,7 @@
 //! The picture of who needs whom, in both versions: its text, and which texts
 //! are read.
 
-use duty_compare::both::{graph, graph_read, own_text, shown};
+use duty_compare::both::{graph, graph_read, own_text, plan_length, shown};
 use duty_compare::graph::{MAX_READ, MAX_TEXT};
 use duty_compare::pictures::{any_drawing, Drawing};
 use duty_compare::random::{sheet, Random};
@@ -88,9 +88,10 @@ fn all_machines_of_a_group_are_in_its_label() {
 /// 9 and 10 are for planning alone.
 #[test]
 fn a_sheet_that_cannot_be_planned_is_drawn() {
-    for sheet in [fullest(), circle(3), blocks(5, 0, false)] {
-        let text = text_of(&sheet);
-        assert!(shown(text.as_bytes()).is_ok(), "{text}");
+    for (sheet, number) in [(fullest(), 9), (circle(3), 9), (blocks(5, 0, false), 10)] {
+        assert_eq!(plan_length(&sheet), refuse(number, 0));
+        let drawing = Drawing::of_sheet(&Sheet::read(&sheet).expect("a sheet"));
+        says(&text_of(&sheet), &drawing.bytes());
     }
 }
 
