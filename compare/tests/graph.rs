@@ -89,7 +89,8 @@ fn all_machines_of_a_group_are_in_its_label() {
 #[test]
 fn a_sheet_that_cannot_be_planned_is_drawn() {
     for (sheet, number) in [(fullest(), 9), (circle(3), 9), (blocks(5, 0, false), 10)] {
-        assert_eq!(plan_length(&sheet), refuse(number, 0));
+        let refused = plan_length(&sheet).map_err(|refusal| refusal.number);
+        assert_eq!(refused, Err(number));
         let drawing = Drawing::of_sheet(&Sheet::read(&sheet).expect("a sheet"));
         says(&text_of(&sheet), &drawing.bytes());
     }
