@@ -39,6 +39,8 @@ use Rattle.command.specs.Advised.{adviceSays, changeSays}
 use Rattle.command.proofs.Near.{next-near, apply-near}
 use Rattle.joining.specs.Join.{joinReply}
 use Rattle.joining.proofs.Near.{join-near}
+use Rattle.picture.specs.Graph.{graphReply, readReply}
+use Rattle.picture.proofs.Near.{draw-near, read-near}
 use Rattle.panel.specs.Words.{wordOf, sheetReply, doneReply, commandReply, moveReply}
 
 -- a reply that is told in part: a refusal is told whole
@@ -90,15 +92,27 @@ module _ (r : Length) (cause : Cause) (place : ℕ) (a : r ≡ Refused cause pla
   pub unmeasured-near : ((number place : ℕ) → measuredOf r ≡ refused number place → place ≤ 6196) → place ≤ 6196
   unmeasured-near near = near _ _ (ap measuredOf a)
 
--- its place is near, be it of the plan's length or of joining
+-- its place is near: of the plan's length
 pub measured-near : (s : List ℕ) (r : Length) → measuredOf r ≡ lengthReply s
     → (number place : ℕ) → measuredOf r ≡ refused number place → place ≤ 6196
 measured-near s r e number place a = length-near s (sym e ∙ a)
 
+-- and of a call that replies the length of what it writes
+output-near : (q : Reply (List ℕ)) → ((n p : ℕ) → q ≡ refused n p → p ≤ 6196) → (r : Length) → measuredOf r ≡ lengthOf q
+    → (number place : ℕ) → measuredOf r ≡ refused number place → place ≤ 6196
+output-near q near r e number place a = near _ _ (refused-told lengthOf length (λ out. refl) (λ n p. refl) q (sym a ∙ e))
+
 pub joined-near : (s lent : List ℕ) (room : ℕ) (r : Length) → measuredOf r ≡ lengthOf (joinReply s lent room)
     → (number place : ℕ) → measuredOf r ≡ refused number place → place ≤ 6196
-joined-near s lent room r e number place a =
-    join-near s lent room (refused-told lengthOf length (λ out. refl) (λ n p. refl) (joinReply s lent room) (sym a ∙ e))
+joined-near s lent room = output-near (joinReply s lent room) (λ n p. join-near s lent room)
+
+pub drawn-near : (s : List ℕ) (room : ℕ) (r : Length) → measuredOf r ≡ lengthOf (graphReply s room)
+    → (number place : ℕ) → measuredOf r ≡ refused number place → place ≤ 6196
+drawn-near s room = output-near (graphReply s room) (λ n p. draw-near s room)
+
+pub shown-near : (text : List ℕ) (room : ℕ) (r : Length) → measuredOf r ≡ lengthOf (readReply text room)
+    → (number place : ℕ) → measuredOf r ≡ refused number place → place ≤ 6196
+shown-near text room = output-near (readReply text room) (λ n p. read-near text room)
 
 module _ (s : List ℕ) (buffer scratch : ℕ) (r : Planned) (e : plannedOf r ≡ toldOf (planReply s buffer scratch)) where
   -- the word of a plan that is written is 0

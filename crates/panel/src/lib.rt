@@ -17,6 +17,7 @@ ghost use Rattle.plan.specs.Measured.{measuredOf};
 ghost use Rattle.command.specs.Next.{nextReply};
 ghost use Rattle.command.specs.Apply.{applyReply, effectReply, stateAfter};
 ghost use Rattle.joining.specs.Join.{joinReply};
+ghost use Rattle.picture.specs.Graph.{graphReply, readReply};
 ghost use Rattle.panel.specs.Words.{wordOf, sheetReply, doneReply, commandReply, moveReply};
 
 // The word of a refusal.
@@ -117,4 +118,24 @@ pub extern "C" fn duty_join(file: &[u8], wishes: &[u8], out: &mut [u8]) -> u64
         ≡ outputAfter (joinReply (now (file .entry)) (now (wishes .entry)) (length (now (out .entry)))) (now (out .entry)) ⌝ }
 {
     length_word(joining::joining::join(file, wishes, out))
+}
+
+// Draws who needs whom, as a text for Graphviz, into a buffer: its length, or the refusal.
+#[no_mangle]
+pub extern "C" fn duty_graph(file: &[u8], out: &mut [u8]) -> u64
+    ensures reply { λ r. ⌜ r ≡ wordOf (lengthOf (graphReply (now (file .entry)) (length (now (out .entry))))) ⌝ }
+    ensures written { λ _. ⌜ now (out .exit)
+        ≡ outputAfter (graphReply (now (file .entry)) (length (now (out .entry)))) (now (out .entry)) ⌝ }
+{
+    length_word(picture::graph::draw(file, out))
+}
+
+// Reads such a text, and writes the machine count, each machine's group and the edges into a buffer: how many bytes, or the refusal.
+#[no_mangle]
+pub extern "C" fn duty_graph_read(text: &[u8], out: &mut [u8]) -> u64
+    ensures reply { λ r. ⌜ r ≡ wordOf (lengthOf (readReply (now (text .entry)) (length (now (out .entry))))) ⌝ }
+    ensures written { λ _. ⌜ now (out .exit)
+        ≡ outputAfter (readReply (now (text .entry)) (length (now (out .entry)))) (now (out .entry)) ⌝ }
+{
+    length_word(picture::graph::read(text, out))
 }

@@ -10,6 +10,7 @@ pub mod Labels
 pub mod Longest
 pub mod Matching
 pub mod Naming
+pub mod Near
 pub mod NumberLoops
 pub mod Numbers
 pub mod Pieces

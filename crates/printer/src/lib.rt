@@ -183,6 +183,14 @@ fn meaning(cause: Cause) {
     }
 }
 
+// A refusal of a sheet, and what it means.
+pub fn refusal_in_words(cause: Cause, place: usize) {
+    refusal(cause, place);
+    text(b": ");
+    meaning(cause);
+    text(b"\n");
+}
+
 // The sheet that a file is.
 pub fn print_sheet(file: &[u8]) {
     let reading = sheet::scan::read(file);
@@ -194,10 +202,17 @@ pub fn print_sheet(file: &[u8]) {
         count_line(index);
         return;
     };
-    refusal(cause, place);
-    text(b": ");
-    meaning(cause);
-    text(b"\n");
+    refusal_in_words(cause, place);
+}
+
+// A number of a buffer's bytes, all of them where it has no more.
+pub fn within(bytes: usize, buffer: &[u8]) -> usize
+    ensures { λ r. ⌜ Counts r (now (buffer .entry)) ⌝ }
+{
+    if buffer.len() < bytes {
+        return buffer.len();
+    }
+    bytes
 }
 
 // A file's bytes into a buffer, as many as it holds; 0 where there is no file.

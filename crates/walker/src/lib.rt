@@ -7,9 +7,9 @@ use printer::labelled;
 use printer::load;
 use printer::refusal_line;
 use printer::text;
+use printer::within;
 use sheet::index::Machine;
 use sheet::index::Move;
-ghost use Rattle.io.specs.Counts.{Counts};
 
 // A command that was sent, and the move that it was.
 fn sent_line(m: Machine, byte: u8, v: Move) {
@@ -51,16 +51,6 @@ fn obey(file: &[u8], plan: &[u8], state: &mut [u8], goal: &[u8], bound: u64) {
         count += 1;
     }
     obeyed(file, plan, state, goal, count, bound);
-}
-
-// A number of a buffer's bytes, all of them where it has no more.
-fn within(bytes: usize, buffer: &[u8]) -> usize
-    ensures { λ r. ⌜ Counts r (now (buffer .entry)) ⌝ }
-{
-    if buffer.len() < bytes {
-        return buffer.len();
-    }
-    bytes
 }
 
 // Prints the walk of a sheet from a state to a goal. No plan is longer than the buffer.

@@ -5,8 +5,8 @@ use native.Mathlib.Omega.{arith}
 use lib.ListN.{length}
 use lib.Seq.{length-take-le}
 use Rattle.io.specs.Counts.{Counts}
-use Rattle.walker.proofs.within.Statement.{statement}
-use Rattle.walker.proofs.within.Tie as tie
+use Rattle.printer.proofs.within.Statement.{statement}
+use Rattle.printer.proofs.within.Tie as tie
 
 counted : (n : ℕ) (l : List ℕ) → n ≤ length l → Counts n l
 counted n l h = (h, sym (length-take-le n l h))
