@@ -11,7 +11,7 @@ use lib.Dec.{leb}
 use lib.ListN.{length, getD, drop, drop-of-length-le}
 use lib.Seq.{drop-cons}
 use Rattle.common.proofs.Bools.{and-left}
-use Rattle.decimal.specs.Decimal.{isDigit, numberAfter, numberIn}
+use Rattle.decimal.specs.Decimal.{isDigit, numberAfter, numberAt}
 
 pub digit-above : {b : ℕ} → isDigit b ≡ true → 48 ≤ b
 unfolding isDigit
@@ -20,11 +20,11 @@ digit-above {b} h = leb-true 48 b (and-left _ _ h)
 -- the digits from `at` up to i are read, their number is n
 pub record ReadUpto (text : List ℕ) (at n i : ℕ) : Type 0 where
   pub small : n < 65536
-  pub rest : numberAfter n (drop i text) ≡ numberIn (drop at text)
+  pub rest : numberAfter n (drop i text) ≡ numberAt (drop at text)
 
 module _ {text : List ℕ} {at : ℕ} where
   pub read-none : ReadUpto text at 0 at
-  unfolding numberIn
+  unfolding numberAt
   read-none = record { small = omega arith; rest = refl }
 
   module _ {n i : ℕ} (u : ReadUpto text at n i) where
@@ -34,10 +34,10 @@ module _ {text : List ℕ} {at : ℕ} where
     read-next l d =
         record { small = omega arith; rest = rw (add-one i) (rw (drop-cons text i 0 l, d) at (u .rest)) }
 
-    pub read-end : isDigit (getD text i 0) ≡ false → i < length text → n ≡ numberIn (drop at text)
+    pub read-end : isDigit (getD text i 0) ≡ false → i < length text → n ≡ numberAt (drop at text)
     unfolding numberAfter
     read-end d l = rw (drop-cons text i 0 l, d) at (u .rest)
 
-    pub read-over : length text ≤ i → n ≡ numberIn (drop at text)
+    pub read-over : length text ≤ i → n ≡ numberAt (drop at text)
     unfolding numberAfter
     read-over l = rw (drop-of-length-le text l) at (u .rest)

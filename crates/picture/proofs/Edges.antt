@@ -70,8 +70,8 @@ module _ (xs ys : List Edge) where
 -- What a relation draws
 
 -- an edge from a to k
-abbrev pub joins : ℕ → ℕ → Edge → Bool
-joins a k e = eqb (e .source) a && eqb (e .target) k
+abbrev pub leads : ℕ → ℕ → Edge → Bool
+leads a k e = eqb (e .source) a && eqb (e .target) k
 
 module _ (joined : ℕ → ℕ → Bool) (n : ℕ) where
   -- the edges from a
@@ -99,16 +99,16 @@ module _ (joined : ℕ → ℕ → Bool) (n : ℕ) where
   )
 
   -- two numbers are joined exactly if some edge joins them
-  pub edges-tell : (a k : ℕ) → a < n → k < n → any (joins a k) (edgesBy joined n) ≡ joined a k
+  pub edges-tell : (a k : ℕ) → a < n → k < n → any (leads a k) (edgesBy joined n) ≡ joined a k
   edges-tell a k h l =
       bool-ext
       (λ t.
-      let (e, e-in, is) = any-some (joins a k) (edgesBy joined n) t in
+      let (e, e-in, is) = any-some (leads a k) (edgesBy joined n) t in
       let source = eqb-true (e .source) a (and-left _ _ is) in
       let target = eqb-true (e .target) k (and-right (eqb (e .source) a) _ is) in
       ap₂ joined (sym source) (sym target) ∙ edgesBy-members e .0 e-in .2)
       (λ t.
-      any-intro (joins a k) (edgesBy-members (edge a k) .1 (h, l, t)) (and-intro (eq-eqb a a refl) (eq-eqb k k refl)))
+      any-intro (leads a k) (edgesBy-members (edge a k) .1 (h, l, t)) (and-intro (eq-eqb a a refl) (eq-eqb k k refl)))
 
   from-rises : (a : ℕ) → Rises (from a)
   from-rises a i h =

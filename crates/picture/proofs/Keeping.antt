@@ -12,7 +12,7 @@ use lib.Seq.{getD-set-same, getD-set-other}
 use Rattle.common.specs.Bits.{bit}
 use Rattle.common.proofs.Bools.{by-cases}
 use Rattle.picture.specs.declared.taking.Last.{Last}
-use Rattle.picture.specs.Reading.{Said, withMachine, withGroup, withNumber}
+use Rattle.picture.specs.Reading.{Said, andMachine, andGroup, andNumber}
 use Rattle.picture.specs.Taken.{EdgeKept, Says}
 
 -- An edge
@@ -42,8 +42,8 @@ module _ {before : List ℕ} {there : Bool} (a : ℕ) {k : ℕ} where
 
 module _ {s : Said} {numbers sources : List ℕ} {l : Last} (says : Says s numbers sources l) where
   pub machine-kept : (i : ℕ) {after : List ℕ} → length numbers ≡ 32 → after ≡ set numbers i (min (l .group) 32)
-      → Says (withMachine s i) after sources (record { machines = l .machines + 1; group = l .group; waits = false })
-  unfolding withMachine
+      → Says (andMachine s i) after sources (record { machines = l .machines + 1; group = l .group; waits = false })
+  unfolding andMachine
   machine-kept i {after} long e =
       record {
         keeps =
@@ -65,8 +65,8 @@ module _ {s : Said} {numbers sources : List ℕ} {l : Last} (says : Says s numbe
       }
 
   pub group-kept : {k : ℕ} {after : List ℕ} → length sources ≡ 32 → EdgeKept sources (l .waits) (l .group) k after
-      → Says (withGroup s k) numbers after (record { machines = l .machines; group = k; waits = not (l .waits) })
-  unfolding withGroup
+      → Says (andGroup s k) numbers after (record { machines = l .machines; group = k; waits = not (l .waits) })
+  unfolding andGroup
   group-kept {k} long kept =
       record {
         keeps =
@@ -83,11 +83,11 @@ module _ {s : Said} {numbers sources : List ℕ} {l : Last} (says : Says s numbe
 
 -- the byte before a number says whose it is
 module _ {b : ℕ} (n : ℕ) (s : Said) {numbers sources : List ℕ} {l : Last} where
-  pub behind-g : b ≡ 103 → Says (withGroup s n) numbers sources l → Says (withNumber b n s) numbers sources l
-  unfolding withNumber
+  pub behind-g : b ≡ 103 → Says (andGroup s n) numbers sources l → Says (andNumber b n s) numbers sources l
+  unfolding andNumber
   behind-g e says = rw (eq-eqb b 103 e) says
 
-  pub behind-other : (b ≡ 103 → ⊥) → Says (withMachine s n) numbers sources l
-      → Says (withNumber b n s) numbers sources l
-  unfolding withNumber
+  pub behind-other : (b ≡ 103 → ⊥) → Says (andMachine s n) numbers sources l
+      → Says (andNumber b n s) numbers sources l
+  unfolding andNumber
   behind-other e says = rw (ne-eqb b 103 e) says

@@ -2,8 +2,7 @@
 -- Assumes nothing.
 use Prim.Native.Nat.{ℕ, suc, _+_, _*_, _≤_, _<_}
 use mathlib.Core.Path.{_≡_, refl, sym, ap, _∙_}
-use mathlib.Core.List.{List, [], _∷_, _++_, append-assoc, append-nil}
-use mathlib.Core.List.{List·Memᴰ, List·Memᴰ·head as head, List·Memᴰ·tail as tail}
+use mathlib.Core.List.{List, [], _∷_, _++_, map, append-assoc, append-nil, List·Memᴰ}
 use mathlib.Core.Bool.{Bool, true, false}
 use native.Mathlib.Omega.{arith}
 use native.Mathlib.Numerals.{add-one}
@@ -11,9 +10,10 @@ use native.Mathlib.Nat.{le-antisymm}
 use borrow.Author.Tests.{eq-eqb, ne-eqb}
 use lib.Dec.{eqb}
 use lib.ListN.{length, getD, length-append}
-use Rattle.common.specs.Lists.{upTo, filter}
+use Rattle.common.specs.Lists.{upTo, filter, sum}
 use Rattle.common.proofs.Lists.{filter-from, length-filter}
 use Rattle.common.proofs.Members.{upTo-below, length-upTo}
+use Rattle.common.proofs.Sums.{sum-mono, sum-constant}
 use Rattle.decimal.specs.Decimal.{decimal}
 use Rattle.decimal.proofs.Putting.{Puts, puts-none, puts-then}
 use Rattle.decimal.proofs.Digits.{two-digits}
@@ -85,12 +85,23 @@ module _ (s : List ℕ) (at : ℕ) (numbers : List ℕ) (k : ℕ) where
       let e : i ≡ length numbers = le-antisymm (u .inside) h in
       rw (sym e) (u .puts)
 
-labels-length : (first : ℕ) (is : List ℕ) → ((i : ℕ) → List·Memᴰ i is → i < 100) → length (labels first is) ≤ 3 * length is
-unfolding labels
-labels-length first [] h = omega arith
-labels-length first (i ∷ is) h =
-    let later = labels-length 32 is (λ j m. h j (tail m)) in
-    omega (arith, length-append (decimal i) (labels 32 is), two-digits i (h i (head refl)), later)
+-- a machine in a label
+abbrev pub labelled : ℕ → ℕ
+labelled i = 1 + length (decimal i)
+
+pub labels-length : (first : ℕ) (is : List ℕ) → length (labels first is) ≡ sum (map labelled is)
+unfolding labels sum
+labels-length first [] = refl
+labels-length first (i ∷ is) = omega (arith, length-append (decimal i) (labels 32 is), labels-length 32 is)
+
+labels-within : (first : ℕ) (is : List ℕ) → ((i : ℕ) → List·Memᴰ i is → i < 100) → length (labels first is) ≤ 3 * length is
+labels-within first is h =
+    omega (
+      arith,
+      labels-length first is,
+      sum-mono labelled (λ i. 3) is (λ i m. omega (arith, two-digits i (h i m))),
+      sum-constant (λ i. 3) 3 is (λ i m. refl),
+    )
 
 module _ (numbers : List ℕ) (k : ℕ) where
   pub labels-short : length numbers ≤ 32 → length (labels 34 (members numbers k)) ≤ 96
@@ -100,7 +111,7 @@ module _ (numbers : List ℕ) (k : ℕ) where
       let n = length numbers in
       omega (
         arith,
-        labels-length 34 (filter p (upTo n)) (λ i m. omega (arith, upTo-below n (filter-from p (upTo n) m))),
+        labels-within 34 (filter p (upTo n)) (λ i m. omega (arith, upTo-below n (filter-from p (upTo n) m))),
         length-filter p (upTo n),
         length-upTo n,
       )

@@ -22,6 +22,7 @@ use Rattle.picture.specs.Picture.{Edge, edge, Picture, edgesBy, namedBy,
 use Rattle.picture.specs.Text.{firstLine, lastLine, lineStart, labels, nodeLine, edgeLine, textOf}
 use Rattle.picture.specs.Drawn.{LongestRight}
 use Rattle.picture.proofs.ClassSums.{sum-add, sum-those, sum-up, classes-sum}
+use Rattle.picture.proofs.Labels.{labelled, labels-length}
 use Rattle.picture.proofs.Edges.{edgesBy-members}
 use Rattle.picture.proofs.Numbers.{pictures-are-drawable}
 use Rattle.picture.proofs.TextRows.{flatMap-flatMap}
@@ -29,15 +30,6 @@ use Rattle.picture.proofs.DrawableMeans.{Drawable, drawable-means, few-
 use Rattle.picture.proofs.Sheets.{drawnBy, edge-lower, every-drawable-has-a-sheet}
 
 -- Lines
-
--- a machine in a label
-abbrev labelled : ℕ → ℕ
-labelled i = 1 + length (decimal i)
-
-labels-length : (first : ℕ) (is : List ℕ) → length (labels first is) ≡ sum (map labelled is)
-unfolding labels sum
-labels-length first [] = refl
-labels-length first (i ∷ is) = omega (arith, length-append (decimal i) (labels 32 is), labels-length 32 is)
 
 -- a node but for its machines
 abbrev nodeFrame : ℕ → ℕ

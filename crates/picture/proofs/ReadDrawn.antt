@@ -20,7 +20,7 @@ use Rattle.common.proofs.Reply.{unless-first, unless-later}
 use Rattle.plan.specs.Groups.{Grouping, groupCount}
 use Rattle.picture.specs.Picture.{Edge, Picture, edgesBy, pictureBytes}
 use Rattle.picture.specs.Text.{textOf}
-use Rattle.picture.specs.Reading.{Said, nothing, saidAfter, takenApart, inTurn, drawable}
+use Rattle.picture.specs.Reading.{Said, saidNothing, saidAfter, takenApart, inTurn, drawable}
 use Rattle.picture.specs.Graph.{fitted, sameBytes, isText, readAs}
 use Rattle.picture.specs.Rows.{joins, Shows, shown, Tells}
 use Rattle.picture.specs.declared.taking.Parts.{Parts}
@@ -96,9 +96,9 @@ pub told-picture : {p : Picture} {numbers sources : List ℕ} {count : ℕ} → 
     → p ≡ shown numbers (take count sources)
 told-picture {numbers = numbers} {sources} t below counted = t .picture below ∙ ap (λ c. shown numbers (take c sources)) (sym counted)
 
-module _ (text : List ℕ) (r : Parts) (taken : TakenFrom (saidAfter 0 text nothing) r) where
+module _ (text : List ℕ) (r : Parts) (taken : TakenFrom (saidAfter 0 text saidNothing) r) where
   abbrev said : Said
-  said = saidAfter 0 text nothing
+  said = saidAfter 0 text saidNothing
 
   abbrev n : ℕ
   n = r .machines

@@ -16,7 +16,7 @@ use Rattle.sheet.proofs.Guarantees.{accepted-valid}
 use Rattle.plan.specs.Groups.{groupsOf}
 use Rattle.picture.specs.Picture.{Picture, namedBy, pictureOf, pictureBytes}
 use Rattle.picture.specs.Text.{textOf}
-use Rattle.picture.specs.Reading.{nothing, saidAfter, takenApart, drawable}
+use Rattle.picture.specs.Reading.{saidNothing, saidAfter, takenApart, drawable}
 use Rattle.picture.specs.Graph.{fitted, graphReply, sameBytes, isText, readAs, readReply}
 use Rattle.picture.specs.Drawn.{HasSheet, DrawsRight, ReadsRight, PicturesRight}
 use Rattle.picture.proofs.Bytes.{bytes-right}
@@ -73,7 +73,7 @@ unfolding isText takenApart
 text-has-sheet text t =
     let p = takenApart text in
     subst HasSheet (same-equal (textOf p) text (and-right (drawable p) _ t))
-    (every-drawable-has-a-sheet p (saidAfter 0 text nothing .joined) refl (and-left _ _ t))
+    (every-drawable-has-a-sheet p (saidAfter 0 text saidNothing .joined) refl (and-left _ _ t))
 
 module _ (sheet : List ℕ) {d : Parsed} (parses : parse sheet ≡ given d) where
   abbrev drawn : Picture

@@ -11,26 +11,26 @@ use lib.ListN.{length, getD, drop, replicate, getD-replicate, length-replicate, 
 use lib.Seq.{drop-cons}
 use Rattle.common.proofs.Bools.{by-cases}
 use Rattle.sets.proofs.Laws.{bit-none}
-use Rattle.decimal.specs.Decimal.{isDigit, numberIn}
+use Rattle.decimal.specs.Decimal.{isDigit, numberAt}
 use Rattle.picture.specs.declared.taking.Last.{Last}
-use Rattle.picture.specs.Reading.{Said, nothing, withMachine, withGroup, withNumber, saidAfter}
+use Rattle.picture.specs.Reading.{Said, saidNothing, andMachine, andGroup, andNumber, saidAfter}
 use Rattle.picture.specs.Taken.{Says, TakenFrom}
 
 -- a number is of one machine at most
-number-machines : (b n : ℕ) (s : Said) → withNumber b n s .machines ≤ s .machines + 1
-unfolding withNumber withGroup withMachine
+number-machines : (b n : ℕ) (s : Said) → andNumber b n s .machines ≤ s .machines + 1
+unfolding andNumber andGroup andMachine
 number-machines b n s = by-cases (eqb b 103) (λ y. rw y (omega arith)) (λ f. rw f (omega arith))
 
 -- one byte of a text
 module _ (b x : ℕ) (rest : List ℕ) (s : Said) where
   after-number : (isDigit x && not (isDigit b)) ≡ true
-      → saidAfter b (x ∷ rest) s ≡ saidAfter x rest (withNumber b (numberIn (x ∷ rest)) s)
+      → saidAfter b (x ∷ rest) s ≡ saidAfter x rest (andNumber b (numberAt (x ∷ rest)) s)
   unfolding saidAfter
-  after-number e = ap (λ (t : Bool). saidAfter x rest (cond t (withNumber b (numberIn (x ∷ rest)) s) s)) e
+  after-number e = ap (λ (t : Bool). saidAfter x rest (cond t (andNumber b (numberAt (x ∷ rest)) s) s)) e
 
   after-other : (isDigit x && not (isDigit b)) ≡ false → saidAfter b (x ∷ rest) s ≡ saidAfter x rest s
   unfolding saidAfter
-  after-other e = ap (λ (t : Bool). saidAfter x rest (cond t (withNumber b (numberIn (x ∷ rest)) s) s)) e
+  after-other e = ap (λ (t : Bool). saidAfter x rest (cond t (andNumber b (numberAt (x ∷ rest)) s) s)) e
 
 -- the bytes below i are taken in, the last of them is b
 pub record SaidUpto (text numbers sources : List ℕ) (l : Last) (b i : ℕ) : Type 0 where
@@ -39,7 +39,7 @@ pub record SaidUpto (text numbers sources : List ℕ) (l : Last) (b i : ℕ) : T
   pub few : l .machines ≤ i
   pub said : Said
   pub says : Says said numbers sources l
-  pub rest : saidAfter b (drop i text) said ≡ saidAfter 0 text nothing
+  pub rest : saidAfter b (drop i text) said ≡ saidAfter 0 text saidNothing
 
 module _ {text : List ℕ} where
   pub said-none :
@@ -49,7 +49,7 @@ module _ {text : List ℕ} where
         numbers-long = length-replicate {A = ℕ} 32 0;
         sources-long = length-replicate {A = ℕ} 32 0;
         few = zero-le;
-        said = nothing;
+        said = saidNothing;
         says =
             record {
               keeps =
@@ -66,9 +66,9 @@ module _ {text : List ℕ} where
 
   module _ {numbers sources : List ℕ} {l : Last} {b i : ℕ} (u : SaidUpto text numbers sources l b i)
       (h : i < length text) {t : Bool} (e : t ≡ (isDigit (getD text i 0) && not (isDigit b))) where
-    pub said-number : {n : ℕ} {numbers' sources' : List ℕ} {l' : Last} → t ≡ true → n ≡ numberIn (drop i text)
+    pub said-number : {n : ℕ} {numbers' sources' : List ℕ} {l' : Last} → t ≡ true → n ≡ numberAt (drop i text)
         → length numbers' ≡ length numbers → length sources' ≡ length sources
-        → ((s : Said) → Says s numbers sources l → Says (withNumber b n s) numbers' sources' l')
+        → ((s : Said) → Says s numbers sources l → Says (andNumber b n s) numbers' sources' l')
         → SaidUpto text numbers' sources' l' (getD text i 0) (i + 1)
     said-number {n} y en en' es' step =
         let says' = step (u .said) (u .says) in
@@ -76,7 +76,7 @@ module _ {text : List ℕ} where
           numbers-long = en' ∙ u .numbers-long;
           sources-long = es' ∙ u .sources-long;
           few = omega (arith, says' .machines, u .says .machines, u .few, number-machines b n (u .said));
-          said = withNumber b n (u .said);
+          said = andNumber b n (u .said);
           says = says';
           rest =
               rw (add-one i, en, drop-cons text i 0 h)
@@ -96,8 +96,8 @@ module _ {text : List ℕ} where
         }
 
   pub said-end : {numbers sources : List ℕ} {l : Last} {b i : ℕ} → SaidUpto text numbers sources l b i → length text ≤ i
-      → TakenFrom (saidAfter 0 text nothing) (record { machines = l .machines; numbers = numbers; sources = sources })
+      → TakenFrom (saidAfter 0 text saidNothing) (record { machines = l .machines; numbers = numbers; sources = sources })
   unfolding saidAfter
   said-end {numbers} {sources} {l} {b} {i} u h =
-      let q : u .said ≡ saidAfter 0 text nothing = rw (drop-of-length-le text h) at (u .rest) in
+      let q : u .said ≡ saidAfter 0 text saidNothing = rw (drop-of-length-le text h) at (u .rest) in
       rw (← q) (record { keeps = u .says .keeps; machines = u .says .machines })

@@ -11,14 +11,14 @@ use lib.Dec.{eqb}
 use lib.ListN.{length}
 use Rattle.common.specs.Lists.{all}
 use Rattle.common.proofs.Bools.{and-left, and-right, cond-false}
-use Rattle.decimal.specs.Decimal.{decimal, isDigit, numberIn}
+use Rattle.decimal.specs.Decimal.{decimal, isDigit, numberAt}
 use Rattle.decimal.specs.Meaning.{NoDigitFirst}
 use Rattle.decimal.proofs.Digits.{decimal-digits, some-digit}
 use Rattle.decimal.proofs.ReadBack.{nothing-first, other-first, no-digit-first, number-stays, reads-back}
 use Rattle.plan.specs.Groups.{Grouping, members}
 use Rattle.picture.specs.Picture.{Edge}
 use Rattle.picture.specs.Text.{lineStart, labels, nodeLine, edgeLine}
-use Rattle.picture.specs.Reading.{Said, withMachine, withGroup, withNumber, saidAfter}
+use Rattle.picture.specs.Reading.{Said, andMachine, andGroup, andNumber, saidAfter}
 
 -- A piece after the other
 
@@ -38,12 +38,12 @@ said-anywhere a b (x ∷ rest) s h =
 
 pub said-append : (before : ℕ) (xs rest : List ℕ) (s : Said) → NoDigitFirst rest
     → saidAfter before (xs ++ rest) s ≡ saidAfter 0 rest (saidAfter before xs s)
-unfolding saidAfter numberIn
+unfolding saidAfter numberAt
 said-append before [] rest s h = said-anywhere before 0 rest s h
 said-append before (x ∷ xs) rest s h =
-    let after : ℕ → Said = λ n. cond (isDigit x && not (isDigit before)) (withNumber before n s) s in
+    let after : ℕ → Said = λ n. cond (isDigit x && not (isDigit before)) (andNumber before n s) s in
     ap (λ n. saidAfter x (xs ++ rest) (after n)) (number-stays 0 (x ∷ xs) rest h)
-    ∙ said-append x xs rest (after (numberIn (x ∷ xs))) h
+    ∙ said-append x xs rest (after (numberAt (x ∷ xs))) h
 
 pub said-then : (xs : List ℕ) (b : ℕ) (rest : List ℕ) (s : Said) → isDigit b ≡ false
     → saidAfter 0 (xs ++ (b ∷ rest)) s ≡ saidAfter b rest (saidAfter 0 xs s)
@@ -71,29 +71,29 @@ said-digits before (x ∷ xs) s t h =
     rw (t, and-false (isDigit x)) (said-digits x xs s (and-left _ _ h) (and-right (isDigit x) _ h))
 
 said-first : (before : ℕ) (xs : List ℕ) (s : Said) → isDigit before ≡ false → 0 < length xs → all isDigit xs ≡ true
-    → saidAfter before xs s ≡ withNumber before (numberIn xs) s
+    → saidAfter before xs s ≡ andNumber before (numberAt xs) s
 unfolding saidAfter all
 said-first before [] s f l h = absurd (not-suc-le-zero l)
 said-first before (x ∷ xs) s f l h =
     let t = and-left (isDigit x) _ h in
-    rw (t, f) (said-digits x xs (withNumber before (numberIn (x ∷ xs)) s) t (and-right (isDigit x) _ h))
+    rw (t, f) (said-digits x xs (andNumber before (numberAt (x ∷ xs)) s) t (and-right (isDigit x) _ h))
 
 said-number : (before n : ℕ) (s : Said) → isDigit before ≡ false → n < 65536
-    → saidAfter before (decimal n) s ≡ withNumber before n s
+    → saidAfter before (decimal n) s ≡ andNumber before n s
 said-number before n s f h =
     said-first before (decimal n) s f (some-digit n) (decimal-digits n)
-    ∙ ap (λ k. withNumber before k s)
-    (ap numberIn (sym (append-nil (decimal n))) ∙ reads-back n [] h nothing-first)
+    ∙ ap (λ k. andNumber before k s)
+    (ap numberAt (sym (append-nil (decimal n))) ∙ reads-back n [] h nothing-first)
 
 -- Lines
 
 -- the machines of a line, one after the other
-unfoldable pub withMachines : Said → List ℕ → Said
-withMachines s [] = s
-withMachines s (i ∷ is) = withMachines (withMachine s i) is
+unfoldable pub andMachines : Said → List ℕ → Said
+andMachines s [] = s
+andMachines s (i ∷ is) = andMachines (andMachine s i) is
 
-said-start : (k : ℕ) (s : Said) → k < 65536 → saidAfter 0 (lineStart k) s ≡ withGroup s k
-unfolding lineStart saidAfter isDigit withNumber
+said-start : (k : ℕ) (s : Said) → k < 65536 → saidAfter 0 (lineStart k) s ≡ andGroup s k
+unfolding lineStart saidAfter isDigit andNumber
 said-start k s h = said-number 103 k s refl h
 
 labels-break : (before : ℕ) (is : List ℕ) → isDigit before ≡ false → NoDigitFirst (labels before is)
@@ -102,18 +102,18 @@ labels-break before [] f = nothing-first
 labels-break before (i ∷ is) f = other-first before (decimal i ++ labels 32 is) f
 
 said-labels : (before : ℕ) (is : List ℕ) (s : Said) → isDigit before ≡ false → eqb before 103 ≡ false
-    → ((i : ℕ) → List·Memᴰ i is → i < 65536) → saidAfter 0 (labels before is) s ≡ withMachines s is
-unfolding labels saidAfter withMachines withNumber isDigit
+    → ((i : ℕ) → List·Memᴰ i is → i < 65536) → saidAfter 0 (labels before is) s ≡ andMachines s is
+unfolding labels saidAfter andMachines andNumber isDigit
 said-labels before [] s f g h = refl
 said-labels before (i ∷ is) s f g h =
     said-other 0 before (decimal i ++ labels 32 is) s f
     ∙ said-append before (decimal i) (labels 32 is) s (labels-break 32 is refl)
     ∙ ap (saidAfter 0 (labels 32 is)) (said-number before i s f (h i (head refl)) ∙ cond-false _ _ g)
-    ∙ said-labels 32 is (withMachine s i) refl refl (λ j m. h j (tail m))
+    ∙ said-labels 32 is (andMachine s i) refl refl (λ j m. h j (tail m))
 
 pub said-node : (groups : Grouping) (k : ℕ) (s : Said) → k < 65536
     → ((i : ℕ) → List·Memᴰ i (members groups k) → i < 65536)
-    → saidAfter 0 (nodeLine groups k) s ≡ withMachines (withGroup s k) (members groups k)
+    → saidAfter 0 (nodeLine groups k) s ≡ andMachines (andGroup s k) (members groups k)
 unfolding nodeLine saidAfter isDigit
 said-node groups k s h each =
     let is = members groups k in
@@ -122,14 +122,14 @@ said-node groups k s h each =
     ∙ said-append 0 named (labels 34 is) s (labels-break 34 is refl)
     ∙ ap (saidAfter 0 (labels 34 is))
     (said-then (lineStart k) 32 (91 ∷ 108 ∷ 97 ∷ 98 ∷ 101 ∷ 108 ∷ 61 ∷ []) s refl ∙ said-start k s h)
-    ∙ said-labels 34 is (withGroup s k) refl refl each
+    ∙ said-labels 34 is (andGroup s k) refl refl each
 
 pub said-edge : (e : Edge) (s : Said) → e .source < 65536 → e .target < 65536
-    → saidAfter 0 (edgeLine e) s ≡ withGroup (withGroup s (e .source)) (e .target)
-unfolding edgeLine saidAfter isDigit withNumber
+    → saidAfter 0 (edgeLine e) s ≡ andGroup (andGroup s (e .source)) (e .target)
+unfolding edgeLine saidAfter isDigit andNumber
 said-edge e s h k =
     let joined : List ℕ = lineStart (e .source) ++ (32 ∷ 45 ∷ 62 ∷ 32 ∷ 103 ∷ decimal (e .target)) in
     said-then joined 59 (10 ∷ []) s refl
     ∙ said-then (lineStart (e .source)) 32 (45 ∷ 62 ∷ 32 ∷ 103 ∷ decimal (e .target)) s refl
     ∙ said-number 103 (e .target) (saidAfter 0 (lineStart (e .source)) s) refl k
-    ∙ ap (λ t. withGroup t (e .target)) (said-start (e .source) s h)
+    ∙ ap (λ t. andGroup t (e .target)) (said-start (e .source) s h)

@@ -9,15 +9,15 @@ use Rattle.common.specs.Lists.{any}
 use Rattle.decimal.specs.Meaning.{NoDigitFirst}
 use Rattle.picture.specs.Picture.{Edge}
 use Rattle.picture.specs.Text.{lineStart, edgeLine}
-use Rattle.picture.specs.Reading.{Said, withGroup, saidAfter}
-use Rattle.picture.proofs.Edges.{joins}
+use Rattle.picture.specs.Reading.{Said, andGroup, saidAfter}
+use Rattle.picture.proofs.Edges.{leads}
 use Rattle.picture.proofs.Saying.{said-append, break-flatMap, said-edge}
 
 -- s and then the edges
 pub record Joined (s : Said) (edges : List Edge) (t : Said) : Type 0 where
   pub machines : t .machines ≡ s .machines
   pub group : (i : ℕ) → t .group i ≡ s .group i
-  pub joined : (a k : ℕ) → t .joined a k ≡ (s .joined a k || any (joins a k) edges)
+  pub joined : (a k : ℕ) → t .joined a k ≡ (s .joined a k || any (leads a k) edges)
 
 edge-break : (e : Edge) → NoDigitFirst (edgeLine e)
 unfolding edgeLine lineStart
@@ -26,35 +26,35 @@ edge-break e l a b = omega arith
 pub edges-break : (edges : List Edge) → NoDigitFirst (flatMap edgeLine edges)
 edges-break edges = break-flatMap edgeLine edges edge-break
 
-joined-none : (s : Said) → Joined s [] s
+no-edge-said : (s : Said) → Joined s [] s
 unfolding any
-joined-none s = record { machines = refl; group = λ i. refl; joined = λ a k. sym (or-false (s .joined a k)) }
+no-edge-said s = record { machines = refl; group = λ i. refl; joined = λ a k. sym (or-false (s .joined a k)) }
 
 -- source and target of one edge, where none waits
 module _ (s : Said) (e : Edge) (still : s .waits ≡ false) where
   abbrev after : Said
-  after = withGroup (withGroup s (e .source)) (e .target)
+  after = andGroup (andGroup s (e .source)) (e .target)
 
   after-still : after .waits ≡ false
-  unfolding withGroup
+  unfolding andGroup
   after-still = rw still
 
   joined-more : {edges : List Edge} {t : Said} → Joined after edges t → Joined s (e ∷ edges) t
-  unfolding withGroup any
+  unfolding andGroup any
   joined-more {edges} {t} j =
       record {
         machines = j .machines;
         group = j .group;
         joined = λ a k.
             j .joined a k
-            ∙ rw (still, or-false (s .joined a k)) (or-assoc (s .joined a k) (joins a k e) (any (joins a k) edges));
+            ∙ rw (still, or-false (s .joined a k)) (or-assoc (s .joined a k) (leads a k e) (any (leads a k) edges));
       }
 
 pub said-edges : (edges : List Edge) (s : Said) → s .waits ≡ false
     → ((e : Edge) → List·Memᴰ e edges → (e .source < 65536) × (e .target < 65536))
     → Joined s edges (saidAfter 0 (flatMap edgeLine edges) s)
 unfolding flatMap saidAfter
-said-edges [] s still small = joined-none s
+said-edges [] s still small = no-edge-said s
 said-edges (e ∷ edges) s still small =
     let own = small e (head refl) in
     let same = said-append 0 (edgeLine e) (flatMap edgeLine edges) s (edges-break edges)

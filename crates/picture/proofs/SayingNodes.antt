@@ -18,49 +18,49 @@ use Rattle.decimal.specs.Meaning.{NoDigitFirst}
 use Rattle.plan.specs.Groups.{Grouping, groupOf, members}
 use Rattle.plan.proofs.ModeDigits.{member-below, member-of, is-member}
 use Rattle.picture.specs.Text.{lineStart, nodeLine}
-use Rattle.picture.specs.Reading.{Said, nothing, withMachine, withGroup, saidAfter}
-use Rattle.picture.proofs.Saying.{said-append, break-flatMap, withMachines, said-node}
+use Rattle.picture.specs.Reading.{Said, saidNothing, andMachine, andGroup, saidAfter}
+use Rattle.picture.proofs.Saying.{said-append, break-flatMap, andMachines, said-node}
 
 -- Machines one after the other
 
-machines-counted : (s : Said) (is : List ℕ) → withMachines s is .machines ≡ s .machines + length is
-unfolding withMachines withMachine
+machines-counted : (s : Said) (is : List ℕ) → andMachines s is .machines ≡ s .machines + length is
+unfolding andMachines andMachine
 machines-counted s [] = omega arith
-machines-counted s (i ∷ is) = omega (arith, machines-counted (withMachine s i) is)
+machines-counted s (i ∷ is) = omega (arith, machines-counted (andMachine s i) is)
 
-machines-joined : (s : Said) (is : List ℕ) (a k : ℕ) → withMachines s is .joined a k ≡ s .joined a k
-unfolding withMachines withMachine
+machines-joined : (s : Said) (is : List ℕ) (a k : ℕ) → andMachines s is .joined a k ≡ s .joined a k
+unfolding andMachines andMachine
 machines-joined s [] a k = refl
-machines-joined s (i ∷ is) a k = machines-joined (withMachine s i) is a k
+machines-joined s (i ∷ is) a k = machines-joined (andMachine s i) is a k
 
-machines-keep : (s : Said) (is : List ℕ) → s .waits ≡ false → withMachines s is .waits ≡ false
-unfolding withMachines withMachine
+machines-keep : (s : Said) (is : List ℕ) → s .waits ≡ false → andMachines s is .waits ≡ false
+unfolding andMachines andMachine
 machines-keep s [] h = h
-machines-keep s (i ∷ is) h = machines-keep (withMachine s i) is refl
+machines-keep s (i ∷ is) h = machines-keep (andMachine s i) is refl
 
 -- one machine ends the wait
-machines-still : (s : Said) (is : List ℕ) → 0 < length is → withMachines s is .waits ≡ false
-unfolding withMachines withMachine
+machines-still : (s : Said) (is : List ℕ) → 0 < length is → andMachines s is .waits ≡ false
+unfolding andMachines andMachine
 machines-still s [] h = absurd (not-suc-le-zero h)
-machines-still s (i ∷ is) h = machines-keep (withMachine s i) is refl
+machines-still s (i ∷ is) h = machines-keep (andMachine s i) is refl
 
 -- a machine that has the last group keeps it
-machines-stay : (s : Said) (is : List ℕ) (i : ℕ) → s .group i ≡ s .last → withMachines s is .group i ≡ s .last
-unfolding withMachines withMachine
+machines-stay : (s : Said) (is : List ℕ) (i : ℕ) → s .group i ≡ s .last → andMachines s is .group i ≡ s .last
+unfolding andMachines andMachine
 machines-stay s [] i e = e
 machines-stay s (j ∷ is) i e =
-    machines-stay (withMachine s j) is i (by-cases (eqb j i) (λ t. cond-true _ _ t) (λ f. cond-false _ _ f ∙ e))
+    machines-stay (andMachine s j) is i (by-cases (eqb j i) (λ t. cond-true _ _ t) (λ f. cond-false _ _ f ∙ e))
 
-machines-in : (s : Said) {i : ℕ} {is : List ℕ} → List·Memᴰ i is → withMachines s is .group i ≡ s .last
-unfolding withMachines withMachine
-machines-in s {i} {is = j ∷ is} (head e) = machines-stay (withMachine s j) is i (cond-true _ _ (eq-eqb j i (sym e)))
-machines-in s {i} {is = j ∷ is} (tail m) = machines-in (withMachine s j) m
+machines-in : (s : Said) {i : ℕ} {is : List ℕ} → List·Memᴰ i is → andMachines s is .group i ≡ s .last
+unfolding andMachines andMachine
+machines-in s {i} {is = j ∷ is} (head e) = machines-stay (andMachine s j) is i (cond-true _ _ (eq-eqb j i (sym e)))
+machines-in s {i} {is = j ∷ is} (tail m) = machines-in (andMachine s j) m
 
-machines-out : (s : Said) (i : ℕ) (is : List ℕ) → (List·Memᴰ i is → ⊥) → withMachines s is .group i ≡ s .group i
-unfolding withMachines withMachine
+machines-out : (s : Said) (i : ℕ) (is : List ℕ) → (List·Memᴰ i is → ⊥) → andMachines s is .group i ≡ s .group i
+unfolding andMachines andMachine
 machines-out s i [] h = refl
 machines-out s i (j ∷ is) h =
-    machines-out (withMachine s j) i is (λ m. h (tail m)) ∙ cond-false _ _ (ne-eqb j i (λ e. h (head (sym e))))
+    machines-out (andMachine s j) i is (λ m. h (tail m)) ∙ cond-false _ _ (ne-eqb j i (λ e. h (head (sym e))))
 
 -- The groups below k
 
@@ -94,7 +94,7 @@ module _ (groups : Grouping) where
     pub none : (a b : ℕ) → s .joined a b ≡ false
     pub still : s .waits ≡ false
 
-  numbered-none : Numbered 0 nothing
+  numbered-none : Numbered 0 saidNothing
   numbered-none =
       record {
         counted =
@@ -108,23 +108,23 @@ module _ (groups : Grouping) where
       }
 
   numbered-next : (k : ℕ) {s : Said} → 0 < length (members groups k) → Numbered k s
-      → Numbered (suc k) (withMachines (withGroup s k) (members groups k))
-  unfolding withGroup members
+      → Numbered (suc k) (andMachines (andGroup s k) (members groups k))
+  unfolding andGroup members
   numbered-next k {s} some old =
       let is = members groups k in
       record {
         counted =
             let more = count-next (groupOf groups) k (upTo (length groups)) in
-            omega (arith, machines-counted (withGroup s k) is, old .counted);
+            omega (arith, machines-counted (andGroup s k) is, old .counted);
         numbered = λ i h l.
             ⊎-elim
-            (λ e. machines-in (withGroup s k) (is-member groups k h e) ∙ sym e)
+            (λ e. machines-in (andGroup s k) (is-member groups k h e) ∙ sym e)
             (λ b.
-            machines-out (withGroup s k) i is (λ m. let f : ⊥ = omega (arith, member-of groups k m) in f)
+            machines-out (andGroup s k) i is (λ m. let f : ⊥ = omega (arith, member-of groups k m) in f)
             ∙ old .numbered i h b)
             (eq-or-lt-of-le (le-of-suc-le-suc l));
-        none = λ a b. machines-joined (withGroup s k) is a b ∙ rw (old .none a b, old .still);
-        still = machines-still (withGroup s k) is some;
+        none = λ a b. machines-joined (andGroup s k) is a b ∙ rw (old .none a b, old .still);
+        still = machines-still (andGroup s k) is some;
       }
 
   node-break : (k : ℕ) → NoDigitFirst (nodeLine groups k)
@@ -135,13 +135,13 @@ module _ (groups : Grouping) where
   nodes-break k = break-flatMap (nodeLine groups) (upTo k) node-break
 
   pub said-nodes : (k : ℕ) → length groups ≤ 65536 → k ≤ 65536 → ((j : ℕ) → j < k → 0 < length (members groups j))
-      → Numbered k (saidAfter 0 (flatMap (nodeLine groups) (upTo k)) nothing)
+      → Numbered k (saidAfter 0 (flatMap (nodeLine groups) (upTo k)) saidNothing)
   unfolding flatMap upTo saidAfter
   said-nodes zero few small some = numbered-none
   said-nodes (suc k) few small some =
-      let before = saidAfter 0 (flatMap (nodeLine groups) (upTo k)) nothing in
-      let same = ap (λ text. saidAfter 0 text nothing) (flatMap-upTo-suc (nodeLine groups) k)
-      ∙ said-append 0 (flatMap (nodeLine groups) (upTo k)) (nodeLine groups k) nothing (node-break k)
+      let before = saidAfter 0 (flatMap (nodeLine groups) (upTo k)) saidNothing in
+      let same = ap (λ text. saidAfter 0 text saidNothing) (flatMap-upTo-suc (nodeLine groups) k)
+      ∙ said-append 0 (flatMap (nodeLine groups) (upTo k)) (nodeLine groups k) saidNothing (node-break k)
       ∙ said-node groups k before (omega arith) (λ i m. omega (arith, member-below groups k m)) in
       subst (Numbered (suc k)) (sym same)
       (numbered-next k (some k (omega arith)) (said-nodes k few (omega arith) (λ j l. some j (omega arith))))

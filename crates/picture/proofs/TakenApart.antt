@@ -17,8 +17,8 @@ use Rattle.plan.proofs.Named.{group-below-count}
 use Rattle.decimal.specs.Decimal.{isDigit}
 use Rattle.picture.specs.Picture.{Picture, edgesBy}
 use Rattle.picture.specs.Text.{firstLine, nodeLine, edgeLine, textOf}
-use Rattle.picture.specs.Reading.{Said, nothing, saidAfter, takenApart, drawable}
-use Rattle.picture.proofs.Edges.{joins, edgesBy-members, edges-tell, edgesBy-cong}
+use Rattle.picture.specs.Reading.{Said, saidNothing, saidAfter, takenApart, drawable}
+use Rattle.picture.proofs.Edges.{leads, edgesBy-members, edges-tell, edgesBy-cong}
 use Rattle.picture.proofs.Saying.{said-append, said-then}
 use Rattle.picture.proofs.SayingNodes.{Numbered, nodes-break, said-nodes}
 use Rattle.picture.proofs.SayingEdges.{Joined, edges-break, said-edges}
@@ -35,23 +35,23 @@ module _ (p : Picture) where
   edges = flatMap edgeLine (p .edges)
 
   -- the first line and the last say nothing
-  text-said : saidAfter 0 (textOf p) nothing ≡ saidAfter 0 edges (saidAfter 0 nodes nothing)
+  text-said : saidAfter 0 (textOf p) saidNothing ≡ saidAfter 0 edges (saidAfter 0 nodes saidNothing)
   unfolding textOf saidAfter isDigit
   text-said =
-      said-then (firstLine ++ nodes ++ edges) 125 (10 ∷ []) nothing refl
-      ∙ said-append 0 (firstLine ++ nodes) edges nothing (edges-break (p .edges))
-      ∙ ap (saidAfter 0 edges) (said-append 0 firstLine nodes nothing (nodes-break (p .groups) count))
+      said-then (firstLine ++ nodes ++ edges) 125 (10 ∷ []) saidNothing refl
+      ∙ said-append 0 (firstLine ++ nodes) edges saidNothing (edges-break (p .edges))
+      ∙ ap (saidAfter 0 edges) (said-append 0 firstLine nodes saidNothing (nodes-break (p .groups) count))
 
   module _ (rel : ℕ → ℕ → Bool) (from : p .edges ≡ edgesBy rel count) (few : length (p .groups) ≤ 32) (low : count ≤ 32)
       (used : (k : ℕ) → k < count → 0 < length (members (p .groups) k)) where
     abbrev before : Said
-    before = saidAfter 0 nodes nothing
+    before = saidAfter 0 nodes saidNothing
 
     numbers : Numbered (p .groups) count before
     numbers = said-nodes (p .groups) count (omega arith) (omega arith) used
 
     abbrev after : Said
-    after = saidAfter 0 (textOf p) nothing
+    after = saidAfter 0 (textOf p) saidNothing
 
     joints : Joined before (p .edges) after
     joints =
@@ -85,8 +85,8 @@ module _ (p : Picture) where
     joined-back : (a k : ℕ) → a < count → k < count → after .joined a k ≡ rel a k
     joined-back a k h l =
         joints .joined a k
-        ∙ ap (λ b. b || any (joins a k) (p .edges)) (numbers .none a k)
-        ∙ ap (any (joins a k)) from
+        ∙ ap (λ b. b || any (leads a k) (p .edges)) (numbers .none a k)
+        ∙ ap (any (leads a k)) from
         ∙ edges-tell rel count a k h l
 
     edges-back : edgesBy (after .joined) (groupCount (map (after .group) (upTo (after .machines)))) ≡ p .edges

@@ -35,15 +35,15 @@ module _ (out before : List ℕ) where
   whole : length out ≤ length before → length (out ++ drop (length out) before) ≡ length before
   whole h = omega (arith, length-append out (drop (length out) before), length-drop (length out) before)
 
-abbrev Fits : Reply (List ℕ) → ℕ → Type 0
-Fits reply room = (out : List ℕ) → reply ≡ given out → length out ≤ room
+abbrev WithinRoom : Reply (List ℕ) → ℕ → Type 0
+WithinRoom reply room = (out : List ℕ) → reply ≡ given out → length out ≤ room
 
 module _ (before : List ℕ) where
-  as-long : (reply : Reply (List ℕ)) → Fits reply (length before) → length (outputAfter reply before) ≡ length before
+  as-long : (reply : Reply (List ℕ)) → WithinRoom reply (length before) → length (outputAfter reply before) ≡ length before
   as-long (given out) fits = whole out before (fits out refl)
   as-long (refused n p) fits = refl
 
-  pub output-left : (reply : Reply (List ℕ)) → Fits reply (length before) → OutputLeft reply before
+  pub output-left : (reply : Reply (List ℕ)) → WithinRoom reply (length before) → OutputLeft reply before
   output-left reply fits =
       record {
         written = λ out i e h. ap (λ r. byte (outputAfter r before) i) e ∙ front out before i h;
@@ -54,7 +54,7 @@ module _ (before : List ℕ) where
 
 -- Drawing and reading fit
 
-fitted-fits : (made : List ℕ) (room : ℕ) → Fits (fitted made room) room
+fitted-fits : (made : List ℕ) (room : ℕ) → WithinRoom (fitted made room) room
 unfolding fitted
 fitted-fits made room out e =
     let (f, none) = given-clear _ (given made) e in
@@ -62,13 +62,13 @@ fitted-fits made room out e =
     let is : made ≡ out = cc in
     omega (arith, ltb-false room (length made) f, ap length is)
 
-graph-fits : (sheet : List ℕ) (room : ℕ) → Fits (graphReply sheet room) room
+graph-fits : (sheet : List ℕ) (room : ℕ) → WithinRoom (graphReply sheet room) room
 unfolding graphReply
 graph-fits sheet room out e =
     let (d, parses, fits) = andThen-given (parse sheet) _ e in
     fitted-fits (textOf (pictureOf (d .model))) room out fits
 
-read-fits : (text : List ℕ) (room : ℕ) → Fits (readReply text room) room
+read-fits : (text : List ℕ) (room : ℕ) → WithinRoom (readReply text room) room
 unfolding readReply readAs
 read-fits text room out e = fitted-fits (pictureBytes (takenApart text)) room out (given-stays _ _ e)
 

@@ -12,7 +12,7 @@ use Rattle.common.specs.Graph.{connected}
 use Rattle.common.specs.Lists.{upTo, all, any, filter, position, find, maximum}
 use Rattle.common.specs.Reply.{Reply, given, refused, unless, andThen}
 use Rattle.sheet.specs.Record.{word, recordAt, part}
-use Rattle.sheet.specs.Model.{moveOf, withMachine as sheetMachine, withMove}
+use Rattle.sheet.specs.Model.{moveOf, withMachine, withMove}
 use Rattle.sheet.specs.Faults.{wrongMoveLength, badMachine, badMove, badGuard, badGuards, sameMove, badCommand}
 use Rattle.sheet.specs.Faults.{machineFaults, moveFaults, endFaults, faultsOf}
 use Rattle.sheet.specs.Parse.{extended, turnAt, parseFrom, parse}
@@ -20,10 +20,10 @@ use Rattle.plan.specs.Needs.{names, needs, needGraph}
 use Rattle.plan.specs.Groups.{Grouping, groupCount, members, together, numbered, ready as groupReady}
 use Rattle.plan.specs.Groups.{withNumber as groupNumber, numberedUpto, groupsOf}
 use Rattle.plan.specs.Groups.{movesOf, namesGroup, namedOutside}
-use Rattle.decimal.specs.Decimal.{digit, digits, decimal, isDigit, numberAfter, numberIn}
+use Rattle.decimal.specs.Decimal.{digit, digits, decimal, isDigit, numberAfter, numberAt}
 use Rattle.picture.specs.Picture.{Edge, edge, edgesBy, namedBy, pictureOf, pictureBytes}
 use Rattle.picture.specs.Text.{lineStart, labels, nodeLine, edgeLine, textOf}
-use Rattle.picture.specs.Reading.{withMachine, withGroup, withNumber, saidAfter, takenApart, ready, inTurn}
+use Rattle.picture.specs.Reading.{andMachine, andGroup, andNumber, saidAfter, takenApart, ready, inTurn}
 use Rattle.picture.specs.Reading.{drawable}
 use Rattle.picture.specs.Graph.{fitted, graphReply, sameBytes, isText, readAs, readReply}
 
@@ -133,8 +133,8 @@ pub record Written : Type 0 where
   pub edges : List Edge
   pub text : List ℕ
 
-abbrev pub written : Grouping → List Edge → List ℕ → Written
-written groups edges text = record { groups = groups; edges = edges; text = text }
+abbrev pub pictured : Grouping → List Edge → List ℕ → Written
+pictured groups edges text = record { groups = groups; edges = edges; text = text }
 
 -- the definition gives each row's text
 abbrev pub EachWritten : List Written → Type 0
@@ -144,8 +144,8 @@ EachWritten rows =
 -- numbers of two digits in names, labels and edges
 abbrev pub writing : List Written
 writing =
-    written (upTo 11) (edge 0 10 ∷ edge 1 9 ∷ edge 9 10 ∷ []) elevenGroups
-    ∷ written (replicate 11 0) [] (graph "  g0 [label=\"0 1 2 3 4 5 6 7 8 9 10\"];\n")
+    pictured (upTo 11) (edge 0 10 ∷ edge 1 9 ∷ edge 9 10 ∷ []) elevenGroups
+    ∷ pictured (replicate 11 0) [] (graph "  g0 [label=\"0 1 2 3 4 5 6 7 8 9 10\"];\n")
     ∷ []
 
 pub record ExamplesDraw : Type 0 where
@@ -157,7 +157,7 @@ pub record ExamplesDraw : Type 0 where
 drawing-holds : EachReplies graphReply drawing
 unfolding
     flatMap bit beyond successors marked single grown layersFrom layers distancesTo distances between connected upTo
-    all any filter position find maximum unless andThen word recordAt part moveOf sheetMachine withMove
+    all any filter position find maximum unless andThen word recordAt part moveOf withMachine withMove
     wrongMoveLength badMachine badMove badGuard badGuards sameMove badCommand machineFaults moveFaults endFaults
     faultsOf extended turnAt parseFrom parse names needs needGraph groupCount members together numbered groupReady
     groupNumber numberedUpto groupsOf movesOf namesGroup namedOutside digit digits decimal edgesBy namedBy pictureOf
@@ -167,7 +167,7 @@ drawing-holds = refl
 reading-holds : EachReplies readReply reading
 unfolding
     flatMap upTo all any filter find maximum unless groupCount members digit digits decimal isDigit numberAfter
-    numberIn edgesBy pictureBytes lineStart labels nodeLine edgeLine textOf withMachine withGroup withNumber
+    numberAt edgesBy pictureBytes lineStart labels nodeLine edgeLine textOf andMachine andGroup andNumber
     saidAfter takenApart ready inTurn drawable fitted sameBytes isText readAs readReply
 reading-holds = refl
 

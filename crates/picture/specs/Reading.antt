@@ -5,7 +5,7 @@ use mathlib.Core.Bool.{Bool, true, false, cond, not, _&&_, _||_}
 use lib.ListN.{length}
 use lib.Dec.{eqb, ltb, leb}
 use Rattle.common.specs.Lists.{upTo, all, any, find}
-use Rattle.decimal.specs.Decimal.{isDigit, numberIn}
+use Rattle.decimal.specs.Decimal.{isDigit, numberAt}
 use Rattle.plan.specs.Groups.{groupOf, groupCount}
 use Rattle.picture.specs.Picture.{Picture, edgesBy}
 
@@ -20,12 +20,12 @@ pub record Said : Type 0 where
   pub last : ℕ
   pub waits : Bool
 
-abbrev pub nothing : Said
-nothing = record { machines = 0; group = λ i. 0; joined = λ a k. false; last = 0; waits = false }
+abbrev pub saidNothing : Said
+saidNothing = record { machines = 0; group = λ i. 0; joined = λ a k. false; last = 0; waits = false }
 
 -- a machine's number: it is of the group that was named last
-unfoldable pub withMachine : Said → ℕ → Said
-withMachine s i =
+unfoldable pub andMachine : Said → ℕ → Said
+andMachine s i =
     record {
       machines = suc (s .machines);
       group = λ j. cond (eqb i j) (s .last) (s .group j);
@@ -35,8 +35,8 @@ withMachine s i =
     }
 
 -- a group's number: an edge ends there if the last number was a group's too, where no edge had ended
-unfoldable pub withGroup : Said → ℕ → Said
-withGroup s k =
+unfoldable pub andGroup : Said → ℕ → Said
+andGroup s k =
     record {
       machines = s .machines;
       group = s .group;
@@ -46,19 +46,19 @@ withGroup s k =
     }
 
 -- a number behind a g is a group's, any other is a machine's
-unfoldable pub withNumber : ℕ → ℕ → Said → Said
-withNumber before n s = cond (eqb before 103) (withGroup s n) (withMachine s n)
+unfoldable pub andNumber : ℕ → ℕ → Said → Said
+andNumber before n s = cond (eqb before 103) (andGroup s n) (andMachine s n)
 
 -- what the rest of a text says, behind a byte before it: a number begins at each digit that is behind no other
 unfoldable pub saidAfter : ℕ → List ℕ → Said → Said
 saidAfter before [] s = s
 saidAfter before (b ∷ rest) s =
     let begins = isDigit b && not (isDigit before) in
-    saidAfter b rest (cond begins (withNumber before (numberIn (b ∷ rest)) s) s)
+    saidAfter b rest (cond begins (andNumber before (numberAt (b ∷ rest)) s) s)
 
 unfoldable pub takenApart : List ℕ → Picture
 takenApart text =
-    let s = saidAfter 0 text nothing in
+    let s = saidAfter 0 text saidNothing in
     let groups = map (s .group) (upTo (s .machines)) in
     record { groups = groups; edges = edgesBy (s .joined) (groupCount groups) }
 

@@ -5,7 +5,7 @@ ghost use mathlib.Core.Bool.{not, _&&_};
 ghost use Prim.Native.Nat.{_<_, min};
 ghost use lib.ListN.{length, set};
 ghost use Rattle.decimal.specs.Decimal.{isDigit};
-ghost use Rattle.picture.specs.Reading.{Said, nothing, withMachine, withGroup, withNumber, saidAfter};
+ghost use Rattle.picture.specs.Reading.{Said, saidNothing, andMachine, andGroup, andNumber, saidAfter};
 ghost use Rattle.picture.specs.Taken.{EdgeKept, Says, TakenFrom};
 
 // How many numbers of machines there were, the group named last, and whether it waits for the target of an edge.
@@ -54,7 +54,7 @@ fn keep_edge(sources: &mut [u64], there: bool, a: usize, k: usize)
 fn take_machine(numbers: &mut [u8], last: Last, i: usize) -> Last
     requires { ⌜ (length (now numbers) ≡ 32) × (last .machines < 9223372036854775807) ⌝ }
     ensures { λ r. ⌜ ((s : Said) (sources : _) → Says s (now (numbers .entry)) sources last
-        → Says (withMachine s i) (now (numbers .exit)) sources r) ⌝ }
+        → Says (andMachine s i) (now (numbers .exit)) sources r) ⌝ }
 {
     keep_group(numbers, i, last.group);
     Last {
@@ -68,7 +68,7 @@ fn take_machine(numbers: &mut [u8], last: Last, i: usize) -> Last
 fn take_group(sources: &mut [u64], last: Last, k: usize) -> Last
     requires { ⌜ length (now sources) ≡ 32 ⌝ }
     ensures { λ r. ⌜ ((s : Said) (numbers : _) → Says s numbers (now (sources .entry)) last
-        → Says (withGroup s k) numbers (now (sources .exit)) r) ⌝ }
+        → Says (andGroup s k) numbers (now (sources .exit)) r) ⌝ }
 {
     keep_edge(sources, last.waits, last.group, k);
     Last {
@@ -82,7 +82,7 @@ fn take_group(sources: &mut [u64], last: Last, k: usize) -> Last
 fn take_number(numbers: &mut [u8], sources: &mut [u64], last: Last, before: u8, n: usize) -> Last
     requires { ⌜ (length (now numbers) ≡ 32) × (length (now sources) ≡ 32) × (last .machines < 9223372036854775807) ⌝ }
     ensures { λ r. ⌜ ((s : Said) → Says s (now (numbers .entry)) (now (sources .entry)) last
-        → Says (withNumber before n s) (now (numbers .exit)) (now (sources .exit)) r) ⌝ }
+        → Says (andNumber before n s) (now (numbers .exit)) (now (sources .exit)) r) ⌝ }
 {
     if before == b'g' {
         return take_group(sources, last, n);
@@ -99,7 +99,7 @@ fn begins(before: u8, b: u8) -> bool
 
 // What a text says.
 pub fn taken(text: &[u8]) -> Parts
-    ensures { λ r. ⌜ TakenFrom (saidAfter 0 (now (text .entry)) nothing) r ⌝ }
+    ensures { λ r. ⌜ TakenFrom (saidAfter 0 (now (text .entry)) saidNothing) r ⌝ }
 {
     let mut numbers = [0u8; 32];
     let mut sources = [0u64; 32];
