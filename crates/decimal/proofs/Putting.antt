@@ -10,7 +10,7 @@ use lib.ListN.{length, set, length-append}
 use lib.Seq.{set-split}
 use Rattle.plan.specs.Written.{written}
 use Rattle.plan.proofs.Overwriting.{written-none, written-more}
-use Rattle.decimal.specs.Decimal.{digit, digits}
+use Rattle.decimal.specs.Decimal.{digit, digits, decimal}
 
 -- A call that writes a piece at a place, and gives the place behind it.
 abbrev pub Puts : List ℕ → ℕ → List ℕ → ℕ → List ℕ → Type 0
@@ -75,3 +75,16 @@ module _ (s : List ℕ) (at n most : ℕ) where
         let more = digits (most - 1) (n / 10) in
         let e = digits-more n most some-digit h in
         omega (arith, length-append more (digit (n % 10) ∷ []), ap length e)
+
+-- Numbers of one digit and of two
+
+module _ (n : ℕ) where
+  pub one-digit : n < 10 → decimal n ≡ digit (n % 10) ∷ []
+  unfolding decimal
+  one-digit h = digits-last n 5 (omega arith) h
+
+  pub two-digits-are : 10 ≤ n → n < 100 → decimal n ≡ (digit (n / 10 % 10) ∷ []) ++ (digit (n % 10) ∷ [])
+  unfolding decimal
+  two-digits-are h l =
+      digits-more n 5 (omega arith) h
+      ∙ ap (λ front. front ++ (digit (n % 10) ∷ [])) (digits-last (n / 10) 4 (omega arith) (omega arith))

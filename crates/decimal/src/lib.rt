@@ -41,6 +41,13 @@ pub fn put(out: &mut [u8], at: usize, n: usize) -> usize
     ensures end { λ r. ⌜ r ≡ at + length (decimal n) ⌝ }
     ensures written { λ _. ⌜ now (out .exit) ≡ written at (decimal n) (now (out .entry)) ⌝ }
 {
+    if n < 10 {
+        return put_digit(out, at, n);
+    }
+    if n < 100 {
+        let end = put_digit(out, at, n / 10);
+        return put_digit(out, end, n);
+    }
     put_digits(out, at, n, 5)
 }
 

@@ -2,23 +2,28 @@
 -- Assumes nothing.
 use Prim.Native.Nat.{ℕ, zero, suc, _+_, _-_, _≤_, _<_}
 use mathlib.Core.Path.{_≡_, refl, sym, ap, _∙_}
-use mathlib.Core.Logic.{⊎-elim}
 use mathlib.Core.List.{List, [], _∷_, _++_}
 use mathlib.Core.Bool.{Bool, true, false, _&&_}
 use native.Mathlib.Omega.{arith}
-use native.Mathlib.Nat.{not-suc-le-zero}
+use native.Mathlib.Nat.{le-antisymm}
 use native.Mathlib.Numerals.{add-one}
 use borrow.Author.Tests.{eq-eqb, ne-eqb, eqb-true}
 use lib.Dec.{eqb}
 use lib.ListN.{length, getD, drop, length-append, length-drop}
 use lib.Seq.{getD-drop}
-use Rattle.common.proofs.Bools.{bool-ext, by-cases, true-false, and-intro, and-left, and-right, and-false-left, and-false-right}
-use Rattle.common.proofs.Least.{last-or-below}
+use Rattle.common.proofs.Bools.{bool-ext, by-cases, true-false, true-of-not-false, and-intro, and-left, and-right, and-false-left, and-false-right}
+use Rattle.common.specs.Lists.{upTo, all}
+use Rattle.common.proofs.Lists.{all-at, all-intro, all-append}
+use Rattle.common.proofs.Members.{upTo-mem, upTo-below}
 use Rattle.picture.specs.Graph.{sameBytes, startsWith}
 
 and-assoc : (a b c : Bool) → (a && b) && c ≡ a && (b && c)
 and-assoc true b c = refl
 and-assoc false b c = refl
+
+and-true : (a : Bool) → a && true ≡ a
+and-true true = refl
+and-true false = refl
 
 starts-append : (xs ys text : List ℕ) → startsWith (xs ++ ys) text ≡ startsWith xs text && startsWith ys (drop (length xs) text)
 unfolding startsWith
@@ -75,35 +80,45 @@ starts-not (x ∷ xs) [] i l n = refl
 starts-not (x ∷ xs) (b ∷ text) zero l n = and-false-left _ (ne-eqb x b (λ e. n (sym e)))
 starts-not (x ∷ xs) (b ∷ text) (suc i) l n = and-false-right (eqb x b) (starts-not xs text i (omega (arith, l)) n)
 
--- the first i bytes of a piece stand at a place of the text
-pub record StandUpto (text : List ℕ) (at : ℕ) (piece : List ℕ) (i : ℕ) : Type 0 where
-  pub room : at + length piece ≤ length text
-  pub inside : i ≤ length piece
-  pub same : (j : ℕ) → j < i → getD text (at + j) 0 ≡ getD piece j 0
-
+-- whether the first i bytes of a piece stand at a place of the text
 module _ (text : List ℕ) (at : ℕ) (piece : List ℕ) where
-  pub stand-none : at + length piece ≤ length text → StandUpto text at piece 0
-  stand-none h = record { room = h; inside = omega arith; same = λ j l. absurd (not-suc-le-zero l) }
+  abbrev equal : ℕ → Bool
+  equal j = eqb (getD text (at + j) 0) (getD piece j 0)
+
+  pub record StandUpto (i : ℕ) (same : Bool) : Type 0 where
+    pub room : at + length piece ≤ length text
+    pub inside : i ≤ length piece
+    pub so-far : same ≡ all equal (upTo i)
+
+  pub stand-none : at + length piece ≤ length text → StandUpto 0 true
+  unfolding upTo all
+  stand-none h = record { room = h; inside = omega arith; so-far = refl }
 
   pub stand-short : length text - at < length piece → at ≤ length text → false ≡ startsWith piece (drop at text)
   stand-short h l = sym (starts-short piece (drop at text) (omega (arith, length-drop at text)))
 
-  module _ {i : ℕ} (u : StandUpto text at piece i) where
-    pub stand-next : i < length piece → getD text (at + i) 0 ≡ getD piece i 0 → StandUpto text at piece (i + 1)
+  module _ {i : ℕ} {same : Bool} (u : StandUpto i same) where
+    pub stand-next : {b : Bool} → i < length piece → b ≡ (same && equal i) → StandUpto (i + 1) b
+    unfolding upTo all
     stand-next l e =
         record {
           room = u .room;
           inside = omega arith;
-          same = λ j k. ⊎-elim (λ same. rw same e) (u .same j) (last-or-below (rw (add-one i) at k));
+          so-far = e ∙ ap (λ t. t && equal i) (u .so-far) ∙ sym (rw (add-one i) (all-append equal (upTo i) (i ∷ []) ∙ ap (λ t. all equal (upTo i) && t) (and-true (equal i))));
         }
 
-    pub stand-differs : i < length piece → (getD text (at + i) 0 ≡ getD piece i 0 → ⊥) → false ≡ startsWith piece (drop at text)
-    stand-differs l n = sym (starts-not piece (drop at text) i l (rw (getD-drop at text i 0) n))
-
-    pub stand-end : length piece ≤ i → true ≡ startsWith piece (drop at text)
+    pub stand-end : length piece ≤ i → same ≡ startsWith piece (drop at text)
     stand-end l =
-        sym (starts-all piece (drop at text) (omega (arith, length-drop at text, u .room))
-        (λ j k. getD-drop at text j 0 ∙ u .same j (omega arith)))
+        let e : i ≡ length piece = le-antisymm (u .inside) l in
+        u .so-far ∙ ap (λ k. all equal (upTo k)) e
+        ∙ bool-ext
+        (λ t.
+        starts-all piece (drop at text) (omega (arith, length-drop at text, u .room)) (λ j k.
+        getD-drop at text j 0 ∙ eqb-true _ _ (all-at equal t (upTo-mem k))))
+        (λ t.
+        all-intro equal (upTo (length piece)) (λ j m.
+        true-of-not-false (λ f. true-false t (starts-not piece (drop at text) j (upTo-below _ m) (λ same.
+        true-false (eq-eqb _ _ (sym (getD-drop at text j 0) ∙ same)) f)))))
 
 -- Pieces of a whole: the text begins with the front of it
 

@@ -4,7 +4,7 @@ use crate::lines::put_edges;
 use crate::lines::put_node;
 use crate::lines::put_pairs;
 ghost use mathlib.Core.Path.{_≡_};
-ghost use mathlib.Core.List.{_++_};
+ghost use mathlib.Core.Bool.{_&&_};
 ghost use Prim.Native.Nat.{_+_, _*_, _≤_, _<_};
 ghost use lib.ListN.{length, drop};
 ghost use Rattle.plan.specs.Written.{written};
@@ -76,7 +76,14 @@ pub fn put_rows(out: &mut [u8], at: usize, numbers: &[u8], sources: &[u64], span
     end
 }
 
-// The bytes stand at a place of a text.
+// Both are true.
+fn both(a: bool, b: bool) -> bool
+    ensures { λ r. ⌜ r ≡ (a && b) ⌝ }
+{
+    a && b
+}
+
+// The bytes stand at a place of a text. They are compared without a way out, so that many go at once.
 fn stands(text: &[u8], at: usize, bytes: &[u8]) -> bool
     requires { ⌜ at ≤ length (now text) ⌝ }
     ensures { λ r. ⌜ r ≡ startsWith (now (bytes .entry)) (drop at (now (text .entry))) ⌝ }
@@ -84,14 +91,13 @@ fn stands(text: &[u8], at: usize, bytes: &[u8]) -> bool
     if text.len() - at < bytes.len() {
         return false;
     }
+    let mut same = true;
     let mut i: usize = 0;
     while i < bytes.len() {
-        if text[at + i] != bytes[i] {
-            return false;
-        }
+        same = both(same, text[at + i] == bytes[i]);
         i += 1;
     }
-    true
+    same
 }
 
 // The text is that of the picture.
