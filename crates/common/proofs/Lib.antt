@@ -1,5 +1,6 @@
 pub mod Bits
 pub mod Bools
+pub mod ClassSums
 pub mod Clear
 pub mod Filling
 pub mod Graph
@@ -7,6 +8,7 @@ pub mod Guarantees
 pub mod Least
 pub mod Lists
 pub mod Members
+pub mod Output
 pub mod Pad
 pub mod Places
 pub mod Reply

@@ -2,9 +2,9 @@
 -- Membership in `map f xs` and in `xs ++ ys` is mathlib.Core.List's: `Memᴰ·map`, `Memᴰ·of-map`, `Memᴰ·append-left` ..
 -- Assumes nothing.
 use Prim.Native.Nat.{ℕ, zero, suc, _≤_, _<_}
-use mathlib.Core.Path.{_≡_, refl, sym, ap, _∙_}
+use mathlib.Core.Path.{_≡_, refl, sym, ap, subst, _∙_}
 use mathlib.Core.Logic.{⊎-elim}
-use mathlib.Core.List.{List, [], _∷_, map, List·Memᴰ, List·Memᴰ·head as head, List·Memᴰ·tail as tail}
+use mathlib.Core.List.{List, [], _∷_, map, flatMap, List·Memᴰ, List·Memᴰ·head as head, List·Memᴰ·tail as tail}
 use mathlib.Core.List.{List·Memᴰ·not-nil, List·Memᴰ·append-cases, List·Memᴰ·eq-of-singleton, Memᴰ·append-left}
 use mathlib.Core.List.{Memᴰ·append-right}
 use native.Mathlib.Nat.{not-suc-le-zero, eq-or-lt-of-le, le-of-suc-le-suc}
@@ -24,6 +24,23 @@ module _ {A : Type 0} where
   pub mem-index : (d : A) {x : A} {xs : List A} → List·Memᴰ x xs → (i : ℕ) × (i < length xs) × (getD xs i d ≡ x)
   mem-index d (head e) = (0, omega arith, sym e)
   mem-index d (tail m) = let r = mem-index d m in (suc (r .0), omega arith, r .2)
+
+-- The members of a list made of a list for each member
+
+module _ {A B : Type 0} (f : A → List B) {y : B} where
+  pub flatMap-mem : {x : A} {xs : List A} → List·Memᴰ x xs → List·Memᴰ y (f x) → List·Memᴰ y (flatMap f xs)
+  unfolding flatMap
+  flatMap-mem {xs = z ∷ zs} (head e) l = Memᴰ·append-left (flatMap f zs) (subst (λ x. List·Memᴰ y (f x)) e l)
+  flatMap-mem {xs = z ∷ zs} (tail m) l = Memᴰ·append-right (f z) (flatMap-mem m l)
+
+  pub flatMap-from : (xs : List A) → List·Memᴰ y (flatMap f xs) → (x : A) × List·Memᴰ x xs × List·Memᴰ y (f x)
+  unfolding flatMap
+  flatMap-from [] l = absurd (List·Memᴰ·not-nil l)
+  flatMap-from (x ∷ xs) l =
+      ⊎-elim
+      (λ here. (x, head refl, here))
+      (λ later. let (z, z-in, y-in) = flatMap-from xs later in (z, tail z-in, y-in))
+      (List·Memᴰ·append-cases (f x) l)
 
 -- The numbers below n
 

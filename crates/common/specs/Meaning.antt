@@ -9,7 +9,7 @@ use lib.ListN.{length, getD}
 use Rattle.common.specs.Lists.{upTo, all, any, filter, position, find, sum, product, maximum, pad}
 use Rattle.common.specs.Bits.{bit, beyond}
 use Rattle.common.specs.Graph.{Graph, Chain, Shortest, distances, between, connected}
-use Rattle.common.specs.Reply.{Reply, given, refused, Fault, clear, unless, andThen}
+use Rattle.common.specs.Reply.{Reply, given, refused, Fault, clear, unless, andThen, outputAfter}
 
 pub record ListsRight (A : Type 0) : Type 0 where
   -- n numbers, and i is in place i
@@ -71,3 +71,12 @@ pub record RepliesRight (A B : Type 0) : Type 0 where
   -- what is given goes on, and a refusal stays
   pub goes-on : (a : A) (f : A → Reply B) → andThen (given a) f ≡ f a
   pub stays : (n p : ℕ) (f : A → Reply B) → andThen (refused n p) f ≡ refused n p
+
+-- What a call leaves in the lent buffer: what it gives, behind it what was there, and all as it was if it is refused.
+pub record OutputLeft (reply : Reply (List ℕ)) (before : List ℕ) : Type 0 where
+  pub written : (out : List ℕ) (i : ℕ) → reply ≡ given out → i < length out
+      → getD (outputAfter reply before) i 0 ≡ getD out i 0
+  pub behind : (out : List ℕ) (i : ℕ) → reply ≡ given out → length out ≤ i
+      → getD (outputAfter reply before) i 0 ≡ getD before i 0
+  pub as-long : length (outputAfter reply before) ≡ length before
+  pub kept : (n p : ℕ) → reply ≡ refused n p → outputAfter reply before ≡ before

@@ -6,7 +6,8 @@ use mathlib.Core.List.{List, [], _∷_, _++_, List·Memᴰ}
 use mathlib.Core.Bool.{true}
 use lib.ListN.{length}
 use Rattle.common.specs.Bits.{bit}
-use Rattle.common.specs.Reply.{given, refused, outputAfter}
+use Rattle.common.specs.Meaning.{OutputLeft}
+use Rattle.common.specs.Reply.{given, refused}
 use Rattle.sheet.specs.Record.{byte}
 use Rattle.sheet.specs.Model.{Model, machineCount}
 use Rattle.sheet.specs.Parse.{Parsed, parse}
@@ -83,11 +84,5 @@ JoinsRight =
     × ((goals : Goals) → length goals ≤ 8 → lent ≡ lentAs goals → JoinTold (d .model) goals sheet lent room))
 
 -- What joining leaves in the lent buffer: the joined goal, behind it what was there, and all as it was if it is refused.
-pub record JoinLeft (sheet lent before : List ℕ) : Type 0 where
-  pub written : (joint : List ℕ) (i : ℕ) → joinReply sheet lent (length before) ≡ given joint → i < length joint
-      → byte (outputAfter (joinReply sheet lent (length before)) before) i ≡ byte joint i
-  pub behind : (joint : List ℕ) (i : ℕ) → joinReply sheet lent (length before) ≡ given joint → length joint ≤ i
-      → byte (outputAfter (joinReply sheet lent (length before)) before) i ≡ byte before i
-  pub as-long : length (outputAfter (joinReply sheet lent (length before)) before) ≡ length before
-  pub kept : (n p : ℕ) → joinReply sheet lent (length before) ≡ refused n p
-      → outputAfter (joinReply sheet lent (length before)) before ≡ before
+abbrev pub JoinLeft : List ℕ → List ℕ → List ℕ → Type 0
+JoinLeft sheet lent before = OutputLeft (joinReply sheet lent (length before)) before

@@ -1,11 +1,12 @@
 -- A picture in bytes: what stands where.
 -- Assumes nothing.
-use Prim.Native.Nat.{ℕ, zero, suc, _+_, _*_, _<_}
+use Prim.Native.Nat.{ℕ, _+_, _*_, _<_}
 use mathlib.Core.Path.{_≡_, refl, ap, _∙_}
 use mathlib.Core.List.{List, [], _∷_, _++_, flatMap}
 use native.Mathlib.Omega.{arith}
 use lib.ListN.{length, getD, length-append, List·getD-append}
 use lib.Seq.{getD-append-add}
+use Rattle.common.proofs.Sums.{length-twos, getD-twos}
 use Rattle.sheet.specs.Record.{byte}
 use Rattle.sheet.specs.Model.{Model, machineCount}
 use Rattle.plan.specs.Groups.{groupOf}
@@ -16,25 +17,10 @@ use Rattle.picture.specs.Drawn.{noEdge, BytesRight}
 abbrev edgeBytes : Edge → List ℕ
 edgeBytes e = e .source ∷ e .target ∷ []
 
-length-edges : (es : List Edge) → length (flatMap edgeBytes es) ≡ 2 * length es
-unfolding flatMap
-length-edges [] = omega arith
-length-edges (e ∷ es) = omega (arith, length-edges es)
-
 edge-bytes : (es : List Edge) (i : ℕ)
     → (byte (flatMap edgeBytes es) (2 * i) ≡ getD es i noEdge .source)
     × (byte (flatMap edgeBytes es) (1 + 2 * i) ≡ getD es i noEdge .target)
-unfolding flatMap
-edge-bytes [] i = (refl, refl)
-edge-bytes (e ∷ es) zero = (refl, refl)
-edge-bytes (e ∷ es) (suc i) =
-    let a : 2 * suc i ≡ 2 + 2 * i = omega arith in
-    let b : 1 + 2 * suc i ≡ 2 + (1 + 2 * i) = omega arith in
-    let rest = flatMap edgeBytes es in
-    let (source, target) = edge-bytes es i in (
-      ap (byte (edgeBytes e ++ rest)) a ∙ getD-append-add (edgeBytes e) rest (2 * i) 0 ∙ source,
-      ap (byte (edgeBytes e ++ rest)) b ∙ getD-append-add (edgeBytes e) rest (1 + 2 * i) 0 ∙ target,
-    )
+edge-bytes es i = getD-twos (λ e. e .source) (λ e. e .target) noEdge refl refl es i
 
 module _ (p : Picture) where
   -- the machine count and the groups
@@ -55,7 +41,7 @@ module _ (p : Picture) where
 
   bytes-length : length (pictureBytes p) ≡ 1 + length (p .groups) + 2 * length (p .edges)
   unfolding pictureBytes
-  bytes-length = omega (arith, length-append (p .groups) back, length-edges (p .edges))
+  bytes-length = omega (arith, length-append (p .groups) back, length-twos (λ e. e .source) (λ e. e .target) (p .edges))
 
 pub bytes-right : (m : Model) → BytesRight m (pictureBytes (pictureOf m))
 unfolding pictureOf pictureBytes

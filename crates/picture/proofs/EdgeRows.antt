@@ -1,29 +1,20 @@
 -- The edges from a group, written one after the other into a row.
 -- Assumes nothing.
 use Prim.Native.Nat.{ℕ, _+_, _*_, _≤_, _<_}
-use mathlib.Core.Path.{_≡_, refl, sym, ap, _∙_}
-use mathlib.Core.List.{List, [], _∷_, _++_, map, flatMap, append-nil}
-use mathlib.Core.Bool.{Bool, true, false}
+use mathlib.Core.Path.{_≡_, refl, sym, _∙_}
+use mathlib.Core.List.{List, flatMap}
+use mathlib.Core.Bool.{true, false}
 use native.Mathlib.Omega.{arith}
 use native.Mathlib.Numerals.{add-one}
 use native.Mathlib.Nat.{le-antisymm, mul-suc}
 use lib.ListN.{length, getD}
 use Rattle.common.specs.Bits.{bit}
 use Rattle.common.specs.Lists.{upTo, filter}
-use Rattle.common.proofs.Sums.{flatMap-append}
+use Rattle.common.proofs.Sums.{flatMap-map, flatMap-snoc}
 use Rattle.decimal.proofs.Putting.{Puts, puts-none, puts-then}
 use Rattle.plan.proofs.ModeDigits.{filter-next, filter-skip}
 use Rattle.picture.specs.Picture.{Edge, edge}
 use Rattle.picture.specs.Rows.{joins, edgesFrom}
-
-flatMap-snoc : {A B : Type 0} (f : A → List B) (xs : List A) (x : A) → flatMap f (xs ++ (x ∷ [])) ≡ flatMap f xs ++ f x
-unfolding flatMap
-flatMap-snoc f xs x = flatMap-append f xs (x ∷ []) ∙ ap (λ l. flatMap f xs ++ l) (append-nil (f x))
-
-flatMap-map : {A B C : Type 0} (f : B → List C) (g : A → B) (xs : List A) → flatMap f (map g xs) ≡ flatMap (λ x. f (g x)) xs
-unfolding flatMap
-flatMap-map f g [] = refl
-flatMap-map f g (x ∷ xs) = ap (λ l. f (g x) ++ l) (flatMap-map f g xs)
 
 module _ (s sources : List ℕ) (a : ℕ) (piece : Edge → List ℕ) (most : ℕ) where
   abbrev upto : ℕ → List ℕ

@@ -3,9 +3,9 @@
 -- Assumes nothing.
 use Prim.Native.Nat.{ℕ, zero, suc, _-_, _+_, _≤_, _<_}
 use mathlib.Core.Path.{_≡_, refl, sym, ap, ap₂, subst, _∙_}
-use mathlib.Core.Logic.{_↔_, ⊎-elim, inl, inr}
-use mathlib.Core.List.{List, [], _∷_, _++_, map, flatMap, List·Memᴰ, List·Memᴰ·head as head, List·Memᴰ·tail as tail}
-use mathlib.Core.List.{List·Memᴰ·not-nil, List·Memᴰ·append-cases, Memᴰ·append-left, Memᴰ·append-right, Memᴰ·map}
+use mathlib.Core.Logic.{_↔_, inl, inr}
+use mathlib.Core.List.{List, _++_, map, flatMap, List·Memᴰ}
+use mathlib.Core.List.{Memᴰ·map}
 use mathlib.Core.List.{Memᴰ·of-map}
 use mathlib.Core.Bool.{Bool, true, _&&_}
 use native.Mathlib.Nat.{not-suc-le-zero}
@@ -16,27 +16,12 @@ use lib.ListN.{length, getD, length-append, length-map, List·getD-append}
 use lib.Seq.{getD-append-add}
 use Rattle.common.specs.Lists.{upTo, any, filter}
 use Rattle.common.proofs.Bools.{by-cases, bool-ext, and-intro, and-left, and-right}
-use Rattle.common.proofs.Members.{mem-getD, upTo-mem, upTo-below, getD-map}
+use Rattle.common.proofs.Members.{mem-getD, flatMap-mem, flatMap-from, upTo-mem, upTo-below, getD-map}
 use Rattle.common.proofs.Lists.{any-intro, any-some, filter-mem, filter-from, filter-holds, filter-cong}
 use Rattle.common.proofs.Sums.{flatMap-upTo-suc, flatMap-cong}
 use Rattle.plan.proofs.ModeDigits.{filter-rises}
 use Rattle.picture.specs.Picture.{Edge, edge, edgesBy}
 use Rattle.picture.specs.Drawn.{Before, noEdge}
-
-module _ {A B : Type 0} (f : A → List B) {y : B} where
-  flatMap-mem : {x : A} {xs : List A} → List·Memᴰ x xs → List·Memᴰ y (f x) → List·Memᴰ y (flatMap f xs)
-  unfolding flatMap
-  flatMap-mem {xs = z ∷ zs} (head e) l = Memᴰ·append-left (flatMap f zs) (subst (λ x. List·Memᴰ y (f x)) e l)
-  flatMap-mem {xs = z ∷ zs} (tail m) l = Memᴰ·append-right (f z) (flatMap-mem m l)
-
-  flatMap-from : (xs : List A) → List·Memᴰ y (flatMap f xs) → (x : A) × List·Memᴰ x xs × List·Memᴰ y (f x)
-  unfolding flatMap
-  flatMap-from [] l = absurd (List·Memᴰ·not-nil l)
-  flatMap-from (x ∷ xs) l =
-      ⊎-elim
-      (λ here. (x, head refl, here))
-      (λ later. let (z, z-in, y-in) = flatMap-from xs later in (z, tail z-in, y-in))
-      (List·Memᴰ·append-cases (f x) l)
 
 -- Lists of edges that rise
 

@@ -1,5 +1,4 @@
 pub mod Bytes
-pub mod ClassSums
 pub mod Constructed
 pub mod DrawableMeans
 pub mod EdgeRows

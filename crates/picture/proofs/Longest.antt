@@ -12,7 +12,8 @@ use lib.ListN.{length, length-append}
 use Rattle.common.specs.Lists.{upTo, filter, sum, maximum}
 use Rattle.common.proofs.Bools.{by-cases}
 use Rattle.common.proofs.Members.{upTo-below, length-upTo, getD-upTo}
-use Rattle.common.proofs.Sums.{sum-mono, length-flatMap}
+use Rattle.common.proofs.Sums.{sum-mono, sum-add, sum-those, sum-up, length-flatMap, flatMap-flatMap}
+use Rattle.common.proofs.ClassSums.{classes-sum}
 use Rattle.decimal.specs.Decimal.{digits, decimal}
 use Rattle.sheet.specs.Model.{Model, machineCount}
 use Rattle.sheet.specs.Valid.{Valid}
@@ -21,11 +22,9 @@ use Rattle.plan.specs.Groups.{Grouping, groupOf, groupCount, groupsOf, members}
 use Rattle.picture.specs.Picture.{Edge, edge, Picture, edgesBy, namedBy, pictureOf}
 use Rattle.picture.specs.Text.{firstLine, lastLine, lineStart, labels, nodeLine, edgeLine, textOf}
 use Rattle.picture.specs.Drawn.{LongestRight}
-use Rattle.picture.proofs.ClassSums.{sum-add, sum-those, sum-up, classes-sum}
 use Rattle.picture.proofs.Labels.{labelled, labels-length}
 use Rattle.picture.proofs.Edges.{edgesBy-members}
 use Rattle.picture.proofs.Numbers.{pictures-are-drawable}
-use Rattle.picture.proofs.TextRows.{flatMap-flatMap}
 use Rattle.picture.proofs.DrawableMeans.{Drawable, drawable-means, few-groups}
 use Rattle.picture.proofs.Sheets.{drawnBy, edge-lower, every-drawable-has-a-sheet}
 

@@ -3,7 +3,7 @@
 use Prim.Native.Nat.{ℕ, zero, suc, _+_, _-_, _≤_, _<_}
 use mathlib.Core.Path.{_≡_, refl, sym, ap, _∙_}
 use mathlib.Core.List.{List, [], _∷_, _++_}
-use mathlib.Core.Bool.{Bool, true, false, _&&_}
+use mathlib.Core.Bool.{Bool, true, false, _&&_, and-assoc}
 use native.Mathlib.Omega.{arith}
 use native.Mathlib.Nat.{le-antisymm}
 use native.Mathlib.Numerals.{add-one}
@@ -11,28 +11,27 @@ use borrow.Author.Tests.{eq-eqb, ne-eqb, eqb-true}
 use lib.Dec.{eqb}
 use lib.ListN.{length, getD, drop, length-append, length-drop}
 use lib.Seq.{getD-drop}
-use Rattle.common.proofs.Bools.{bool-ext, by-cases, true-false, true-of-not-false, and-intro, and-left, and-right, and-false-left, and-false-right}
 use Rattle.common.specs.Lists.{upTo, all}
+use Rattle.common.proofs.Bools.{bool-ext, by-cases, true-false, true-of-not-false, and-intro, and-left, and-right}
+use Rattle.common.proofs.Bools.{and-false-left, and-false-right}
 use Rattle.common.proofs.Lists.{all-at, all-intro, all-append}
 use Rattle.common.proofs.Members.{upTo-mem, upTo-below}
 use Rattle.picture.specs.Graph.{sameBytes, startsWith}
-
-and-assoc : (a b c : Bool) → (a && b) && c ≡ a && (b && c)
-and-assoc true b c = refl
-and-assoc false b c = refl
 
 and-true : (a : Bool) → a && true ≡ a
 and-true true = refl
 and-true false = refl
 
-starts-append : (xs ys text : List ℕ) → startsWith (xs ++ ys) text ≡ startsWith xs text && startsWith ys (drop (length xs) text)
+starts-append : (xs ys text : List ℕ)
+    → startsWith (xs ++ ys) text ≡ startsWith xs text && startsWith ys (drop (length xs) text)
 unfolding startsWith
 starts-append [] ys text = refl
 starts-append (x ∷ xs) ys [] = refl
 starts-append (x ∷ xs) ys (b ∷ text) =
     ap (λ t. eqb x b && t) (starts-append xs ys text) ∙ sym (and-assoc (eqb x b) _ _)
 
-same-append : (xs ys text : List ℕ) → sameBytes (xs ++ ys) text ≡ startsWith xs text && sameBytes ys (drop (length xs) text)
+same-append : (xs ys text : List ℕ)
+    → sameBytes (xs ++ ys) text ≡ startsWith xs text && sameBytes ys (drop (length xs) text)
 unfolding startsWith sameBytes
 same-append [] ys text = refl
 same-append (x ∷ xs) ys [] = refl
@@ -71,9 +70,11 @@ unfolding startsWith
 starts-all [] text l h = refl
 starts-all (x ∷ xs) [] l h = absurd (omega (arith, l))
 starts-all (x ∷ xs) (b ∷ text) l h =
-    and-intro (eq-eqb x b (sym (h 0 (omega arith)))) (starts-all xs text (omega (arith, l)) (λ i k. h (suc i) (omega (arith, k))))
+    and-intro (eq-eqb x b (sym (h 0 (omega arith))))
+    (starts-all xs text (omega (arith, l)) (λ i k. h (suc i) (omega (arith, k))))
 
-pub starts-not : (xs text : List ℕ) (i : ℕ) → i < length xs → (getD text i 0 ≡ getD xs i 0 → ⊥) → startsWith xs text ≡ false
+pub starts-not : (xs text : List ℕ) (i : ℕ) → i < length xs → (getD text i 0 ≡ getD xs i 0 → ⊥)
+    → startsWith xs text ≡ false
 unfolding startsWith
 starts-not [] text i l n = absurd (omega (arith, l))
 starts-not (x ∷ xs) [] i l n = refl
@@ -104,7 +105,8 @@ module _ (text : List ℕ) (at : ℕ) (piece : List ℕ) where
         record {
           room = u .room;
           inside = omega arith;
-          so-far = e ∙ ap (λ t. t && equal i) (u .so-far) ∙ sym (rw (add-one i) (all-append equal (upTo i) (i ∷ []) ∙ ap (λ t. all equal (upTo i) && t) (and-true (equal i))));
+          so-far = e ∙ ap (λ t. t && equal i) (u .so-far)
+              ∙ sym (rw (add-one i) (all-append equal (upTo i) (i ∷ []) ∙ ap (λ t. all equal (upTo i) && t) (and-true (equal i))));
         }
 
     pub stand-end : length piece ≤ i → same ≡ startsWith piece (drop at text)
@@ -143,7 +145,8 @@ module _ {text front : List ℕ} {at : ℕ} (f : Fronts text front at) where
   front-differs piece more e n =
       let fails : sameBytes (piece ++ more) (drop (length front) text) ≡ false
       = same-append piece more _ ∙ and-false-left _ (rw (f .place) at n) in
-      sym (ap (λ w. sameBytes w text) e ∙ same-append front (piece ++ more) text ∙ and-false-right (startsWith front text) fails)
+      sym (ap (λ w. sameBytes w text) e
+      ∙ same-append front (piece ++ more) text ∙ and-false-right (startsWith front text) fails)
 
   pub front-last : {whole : List ℕ} (last : List ℕ) → whole ≡ front ++ last
       → startsWith last (drop at text) && eqb (at + length last) (length text) ≡ sameBytes whole text
@@ -156,7 +159,8 @@ module _ {text front : List ℕ} {at : ℕ} (f : Fronts text front at) where
       = bool-ext
       (λ t.
       let l = same-length last rest t in
-      and-intro (sym (same-starts last rest l) ∙ t) (eq-eqb (at + length last) (length text) (omega (arith, l, size, inside))))
+      and-intro (sym (same-starts last rest l) ∙ t)
+      (eq-eqb (at + length last) (length text) (omega (arith, l, size, inside))))
       (λ t.
       let whole = eqb-true (at + length last) (length text) (and-right (startsWith last rest) ends t) in
       same-starts last rest (omega (arith, whole, size, inside)) ∙ and-left (startsWith last rest) ends t) in

@@ -1,37 +1,20 @@
 -- The text of a picture, and its bytes, row by row.
 -- Assumes nothing.
-use Prim.Native.Nat.{ℕ, zero, suc, _+_, _*_, _-_, _≤_, _<_}
+use Prim.Native.Nat.{ℕ, suc, _+_, _*_, _-_, _≤_, _<_}
 use mathlib.Core.Path.{_≡_, refl, sym, ap, ap₂, _∙_}
-use mathlib.Core.List.{List, [], _∷_, _++_, map, flatMap, append-assoc, append-nil}
+use mathlib.Core.List.{List, [], _∷_, _++_, map, flatMap, append-assoc}
 use native.Mathlib.Omega.{arith}
-use native.Mathlib.Nat.{add-zero, zero-add, add-suc}
+use native.Mathlib.Nat.{zero-add}
 use native.Mathlib.Numerals.{add-one}
 use borrow.Author.Tests.{lt-ltb, le-ltb}
-use lib.ListN.{length, length-append}
+use lib.ListN.{length}
 use Rattle.common.specs.Lists.{upTo, filter}
 use Rattle.common.proofs.Members.{upTo-below}
-use Rattle.common.proofs.Sums.{flatMap-append, flatMap-upTo-suc, flatMap-cong}
+use Rattle.common.proofs.Sums.{flatMap-flatMap, flatMap-upTo-suc, flatMap-upTo-add, flatMap-cong}
 use Rattle.plan.specs.Groups.{groupCount}
 use Rattle.picture.specs.Picture.{Edge, edge, edgesBy, pictureBytes}
 use Rattle.picture.specs.Text.{firstLine, lastLine, nodeLine, edgeLine, textOf}
 use Rattle.picture.specs.Rows.{joins, edgesFrom, edgeRow, pairRow, Shows, shown, rowOf, rowsFrom}
-
-pub flatMap-flatMap : {A B C : Type 0} (g : B → List C) (f : A → List B) (xs : List A)
-    → flatMap g (flatMap f xs) ≡ flatMap (λ x. flatMap g (f x)) xs
-unfolding flatMap
-flatMap-flatMap g f [] = refl
-flatMap-flatMap g f (x ∷ xs) =
-    flatMap-append g (f x) (flatMap f xs) ∙ ap (λ l. flatMap g (f x) ++ l) (flatMap-flatMap g f xs)
-
-module _ {B : Type 0} (f : ℕ → List B) where
-  flatMap-upTo-add : (n m : ℕ) → flatMap f (upTo (n + m)) ≡ flatMap f (upTo n) ++ flatMap (λ j. f (n + j)) (upTo m)
-  unfolding upTo flatMap
-  flatMap-upTo-add n zero = rw (add-zero n) (sym (append-nil _))
-  flatMap-upTo-add n (suc m) =
-      rw (add-suc n m)
-      (flatMap-upTo-suc f (n + m) ∙ ap (λ l. l ++ f (n + m)) (flatMap-upTo-add n m)
-      ∙ append-assoc (flatMap f (upTo n)) _ (f (n + m))
-      ∙ ap (λ l. flatMap f (upTo n) ++ l) (sym (flatMap-upTo-suc (λ j. f (n + j)) m)))
 
 module _ (numbers sources : List ℕ) where
   abbrev count : ℕ

@@ -5,7 +5,8 @@ use mathlib.Core.Path.{_≡_}
 use mathlib.Core.Logic.{_↔_, _⊎_}
 use mathlib.Core.List.{List, List·Memᴰ}
 use lib.ListN.{length, getD}
-use Rattle.common.specs.Reply.{Reply, given, refused, outputAfter}
+use Rattle.common.specs.Reply.{given, refused}
+use Rattle.common.specs.Meaning.{OutputLeft}
 use Rattle.sheet.specs.Record.{byte}
 use Rattle.sheet.specs.Model.{Model, machineCount}
 use Rattle.sheet.specs.Parse.{Parsed, parse}
@@ -80,16 +81,7 @@ pub record LongestRight : Type 0 where
   pub at-most : (sheet : List ℕ) (d : Parsed) → parse sheet ≡ given d → length (textOf (pictureOf (d .model))) ≤ 7273
   pub reached : (text : List ℕ) × HasSheet text × (length text ≡ 7273)
 
--- What a call leaves in the lent buffer: what it gives, behind it what was there, and all as it was if it is refused.
-pub record OutputLeft (reply : Reply (List ℕ)) (before : List ℕ) : Type 0 where
-  pub written : (out : List ℕ) (i : ℕ) → reply ≡ given out → i < length out
-      → byte (outputAfter reply before) i ≡ byte out i
-  pub behind : (out : List ℕ) (i : ℕ) → reply ≡ given out → length out ≤ i
-      → byte (outputAfter reply before) i ≡ byte before i
-  pub as-long : length (outputAfter reply before) ≡ length before
-  pub kept : (n p : ℕ) → reply ≡ refused n p → outputAfter reply before ≡ before
-
--- Of drawing a sheet, and of reading a text.
+-- What drawing a sheet leaves in the lent buffer, and what reading a text does.
 pub record OutputsLeft (before : List ℕ) : Type 0 where
   pub drawing : (sheet : List ℕ) → OutputLeft (graphReply sheet (length before)) before
   pub reading : (text : List ℕ) → OutputLeft (readReply text (length before)) before

@@ -2,15 +2,15 @@
 -- writes.
 -- Assumes nothing.
 use Prim.Native.Nat.{ℕ, suc, _≤_, _<_}
-use mathlib.Core.Path.{_≡_, refl, sym, ap, _∙_}
-use mathlib.Core.List.{List, [], _∷_, _++_, map, flatMap, Memᴰ·of-map}
+use mathlib.Core.Path.{_≡_, sym, ap, _∙_}
+use mathlib.Core.List.{List, [], _++_, map, flatMap, Memᴰ·of-map}
 use mathlib.Core.Bool.{true}
 use native.Mathlib.Omega.{arith}
 use lib.ListN.{length, getD}
 use lib.Seq.{ext-getD}
 use Rattle.common.specs.Lists.{upTo}
 use Rattle.common.proofs.Members.{mem-index, length-map-upTo, getD-map-upTo}
-use Rattle.common.proofs.Sums.{maximum-is-least}
+use Rattle.common.proofs.Sums.{maximum-is-least, flatMap-map}
 use Rattle.sheet.specs.Record.{recordOf}
 use Rattle.sheet.specs.Model.{Model}
 use Rattle.sheet.specs.Valid.{Valid}
@@ -24,13 +24,6 @@ use Rattle.plan.proofs.Words.{gapless-means, first-means}
 use Rattle.plan.proofs.ShapeTests.{shape-tests}
 use Rattle.plan.proofs.Laid.{Laid, groups-read, entry-read, bound-read, laid-tests}
 use Rattle.plan.proofs.Rebuilt.{plan-rebuilt}
-
--- the tables one after the other, by their numbers
-flatMap-map : {A B C : Type 0} (f : B → List C) (g : A → B) (xs : List A)
-    → flatMap f (map g xs) ≡ flatMap (λ x. f (g x)) xs
-unfolding flatMap
-flatMap-map f g [] = refl
-flatMap-map f g (x ∷ xs) = ap (λ l. f (g x) ++ l) (flatMap-map f g xs)
 
 by-places : {A : Type 0} (d : A) (xs : List A) → map (λ k. getD xs k d) (upTo (length xs)) ≡ xs
 by-places d xs =

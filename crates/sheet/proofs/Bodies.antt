@@ -10,6 +10,7 @@ use lib.Dec.{eqb}
 use lib.ListN.{length, getD}
 use lib.Seq.{getD-append-add, ext-getD}
 use Rattle.common.proofs.Bools.{by-cases}
+use Rattle.common.proofs.Sums.{length-twos, getD-twos}
 use Rattle.sheet.specs.Record.{byte}
 use Rattle.sheet.specs.Model.{Guard, Move, Model, guard, noGuard, guardAt, moveOf}
 use Rattle.sheet.specs.Write.{machineBody, guardBytes, moveBody}
@@ -19,31 +20,16 @@ pub length-machineBody : (m : Model) (i : ℕ) → length (machineBody m i) ≡ 
 unfolding machineBody
 length-machineBody m i = refl
 
--- two bytes for each need
-pub length-guards : (gs : List Guard) → length (flatMap guardBytes gs) ≡ 2 * length gs
-unfolding flatMap
-length-guards [] = omega arith
-length-guards (g ∷ gs) = omega (arith, length-guards gs)
-
 -- the needs, two bytes each, at twice their number
-pub guard-bytes : (gs : List Guard) (n : ℕ)
+guard-bytes : (gs : List Guard) (n : ℕ)
     → (byte (flatMap guardBytes gs) (2 * n) ≡ getD gs n noGuard .machine)
     × (byte (flatMap guardBytes gs) (1 + 2 * n) ≡ getD gs n noGuard .mask)
-unfolding flatMap
-guard-bytes [] n = (refl, refl)
-guard-bytes (g ∷ gs) zero = (refl, refl)
-guard-bytes (g ∷ gs) (suc n) =
-    let a : 2 * suc n ≡ 2 + 2 * n = omega arith in
-    let b : 1 + 2 * suc n ≡ 2 + (1 + 2 * n) = omega arith in
-    let rest = flatMap guardBytes gs in
-    let machine = ap (byte (guardBytes g ++ rest)) a ∙ getD-append-add (guardBytes g) rest (2 * n) 0 in
-    let mask = ap (byte (guardBytes g ++ rest)) b ∙ getD-append-add (guardBytes g) rest (1 + 2 * n) 0 in
-    (machine ∙ guard-bytes gs n .0, mask ∙ guard-bytes gs n .1)
+guard-bytes gs n = getD-twos (λ g. g .machine) (λ g. g .mask) noGuard refl refl gs n
 
 module _ (v : Move) where
   pub length-moveBody : length (moveBody v) ≡ 4 + 2 * length (v .guards)
   unfolding moveBody
-  length-moveBody = omega (arith, length-guards (v .guards))
+  length-moveBody = omega (arith, length-twos (λ g. g .machine) (λ g. g .mask) (v .guards))
 
   -- behind the first four bytes stand the needs
   pub byte-behind : (i : ℕ) → byte (moveBody v) (4 + i) ≡ byte (flatMap guardBytes (v .guards)) i

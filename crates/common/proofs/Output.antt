@@ -1,0 +1,44 @@
+-- What a call whose reply fits the lent buffer leaves in it.
+-- Assumes nothing.
+use Prim.Native.Nat.{ℕ, _+_, _-_, _≤_, _<_}
+use mathlib.Core.Path.{_≡_, refl, sym, ap, _∙_}
+use mathlib.Core.List.{List, _++_}
+use native.Mathlib.Omega.{arith}
+use lib.ListN.{length, getD, drop, length-append, length-drop, List·getD-append}
+use lib.Seq.{getD-append-add, getD-drop}
+use Rattle.common.specs.Reply.{Reply, given, refused, outputAfter}
+use Rattle.common.specs.Meaning.{OutputLeft}
+
+-- a list before what stood behind it
+module _ (out before : List ℕ) where
+  front : (i : ℕ) → i < length out → getD (out ++ drop (length out) before) i 0 ≡ getD out i 0
+  front i h = List·getD-append out _ 0 i h
+
+  back : (i : ℕ) → length out ≤ i → getD (out ++ drop (length out) before) i 0 ≡ getD before i 0
+  back i h =
+      let e : length out + (i - length out) ≡ i = omega arith in
+      ap (λ j. getD (out ++ drop (length out) before) j 0) (sym e)
+      ∙ getD-append-add out _ (i - length out) 0
+      ∙ getD-drop (length out) before (i - length out) 0
+      ∙ ap (λ j. getD before j 0) e
+
+  whole : length out ≤ length before → length (out ++ drop (length out) before) ≡ length before
+  whole h = omega (arith, length-append out (drop (length out) before), length-drop (length out) before)
+
+abbrev pub WithinRoom : Reply (List ℕ) → ℕ → Type 0
+WithinRoom reply room = (out : List ℕ) → reply ≡ given out → length out ≤ room
+
+module _ (before : List ℕ) where
+  as-long : (reply : Reply (List ℕ)) → WithinRoom reply (length before)
+      → length (outputAfter reply before) ≡ length before
+  as-long (given out) fits = whole out before (fits out refl)
+  as-long (refused n p) fits = refl
+
+  pub output-left : (reply : Reply (List ℕ)) → WithinRoom reply (length before) → OutputLeft reply before
+  output-left reply fits =
+      record {
+        written = λ out i e h. ap (λ r. getD (outputAfter r before) i 0) e ∙ front out before i h;
+        behind = λ out i e h. ap (λ r. getD (outputAfter r before) i 0) e ∙ back out before i h;
+        as-long = as-long reply fits;
+        kept = λ n p e. ap (λ r. outputAfter r before) e;
+      }
