@@ -69,23 +69,9 @@ digits-some most n =
     (λ t. rw t (omega arith))
     (λ f. rw f (omega (arith, length-append (digits most (n / 10)) (digit (n % 10) ∷ []))))
 
-digits-few : (most n : ℕ) → length (digits most n) ≤ most
-unfolding digits
-digits-few zero n = omega arith
-digits-few (suc most) n =
-    by-cases (ltb n 10)
-    (λ t. rw t (omega arith))
-    (λ f.
-    rw f
-    (omega (arith, length-append (digits most (n / 10)) (digit (n % 10) ∷ []), digits-few most (n / 10))))
-
 pub some-digit : (n : ℕ) → 0 < length (decimal n)
 unfolding decimal
 some-digit n = digits-some 4 n
-
-pub five-digits : (n : ℕ) → length (decimal n) ≤ 5
-unfolding decimal
-five-digits n = digits-few 5 n
 
 pub two-digits : (n : ℕ) → n < 100 → length (decimal n) ≤ 2
 unfolding decimal

@@ -27,7 +27,8 @@ puts-none s at = (omega arith, written-none at s)
 pub puts-then : (s : List ℕ) (at : ℕ) (first second : List ℕ) {front out : List ℕ} {mid end : ℕ} → at ≤ length s
     → Puts s at first mid front → Puts front mid second end out → Puts s at (first ++ second) end out
 puts-then s at first second room p q =
-    (omega (arith, length-append first second, p .0, q .0), q .1 ∙ rw (p .1) (written-more at first s room second (p .0)))
+    let longer = written-more at first s room second (p .0) in
+    (omega (arith, length-append first second, p .0, q .0), q .1 ∙ rw (p .1) longer)
 
 module _ (n : ℕ) where
   pub digits-none : {most : ℕ} → most ≡ 0 → digits most n ≡ []

@@ -10,7 +10,7 @@ use borrow.Author.Tests.{ltb-true}
 use lib.Dec.{ltb}
 use Rattle.common.specs.Lists.{all}
 use Rattle.common.proofs.Bools.{by-cases, and-left, and-right, true-false, false-of-not-true}
-use Rattle.decimal.specs.Decimal.{digit, digits, decimal, isDigit, numberAfter, numberAt}
+use Rattle.decimal.specs.Decimal.{digit, digits, decimal, isDigit, numberAfter, leadingNumber}
 use Rattle.decimal.specs.Meaning.{NoDigitFirst, DecimalRight}
 use Rattle.decimal.proofs.Digits.{digits-are, digit-is, digit-from, digit-within}
 use Rattle.decimal.proofs.Digits.{digits-only, some-digit, no-leading-zero}
@@ -69,8 +69,8 @@ read-digits (suc most) n h l =
     ∙ number-digit (n / 10) (n % 10) (omega arith) (omega arith)
     ∙ omega arith))
 
-pub reads-back : (n : ℕ) (rest : List ℕ) → n < 65536 → NoDigitFirst rest → numberAt (decimal n ++ rest) ≡ n
-unfolding numberAt decimal
+pub reads-back : (n : ℕ) (rest : List ℕ) → n < 65536 → NoDigitFirst rest → leadingNumber (decimal n ++ rest) ≡ n
+unfolding leadingNumber decimal
 reads-back n rest h e = number-stays 0 (digits 5 n) rest e ∙ read-digits 5 n (omega arith) h
 
 pub decimals-right : DecimalRight

@@ -31,5 +31,5 @@ numberAfter before (b ∷ rest) =
     cond (isDigit b) longer before
 
 -- the number that begins a text, 0 where none does
-unfoldable pub numberAt : List ℕ → ℕ
-numberAt text = numberAfter 0 text
+unfoldable pub leadingNumber : List ℕ → ℕ
+leadingNumber text = numberAfter 0 text

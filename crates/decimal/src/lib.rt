@@ -7,7 +7,7 @@ ghost use Prim.Native.Nat.{_+_, _%_, _≤_, _<_};
 ghost use mathlib.Core.List.{[], _∷_};
 ghost use lib.ListN.{length, drop};
 ghost use Rattle.plan.specs.Written.{written};
-ghost use Rattle.decimal.specs.Decimal.{digit, digits, decimal, isDigit, numberAt};
+ghost use Rattle.decimal.specs.Decimal.{digit, digits, decimal, isDigit, leadingNumber};
 
 // Writes the last digit of a number at a place, and gives the place behind it.
 fn put_digit(out: &mut [u8], at: usize, n: usize) -> usize
@@ -60,7 +60,7 @@ pub fn is_digit(b: u8) -> bool
 
 // The number that begins at a place of a text, modulo 65,536; 0 where none does.
 pub fn read(text: &[u8], at: usize) -> usize
-    ensures { λ r. ⌜ r ≡ numberAt (drop at (now (text .entry))) ⌝ }
+    ensures { λ r. ⌜ r ≡ leadingNumber (drop at (now (text .entry))) ⌝ }
 {
     let mut n: usize = 0;
     let mut i = at;

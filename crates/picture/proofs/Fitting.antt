@@ -1,8 +1,8 @@
 -- What the calls write, and what they reply: the text of a picture, and its bytes.
 -- Assumes nothing.
 use Prim.Native.Nat.{ℕ, _+_, _*_, _≤_, _<_}
-use mathlib.Core.Path.{_≡_, refl, sym, ap, _∙_}
-use mathlib.Core.List.{List, [], _∷_, _++_, append-assoc}
+use mathlib.Core.Path.{_≡_, refl, ap, _∙_}
+use mathlib.Core.List.{List, [], _∷_, _++_}
 use native.Mathlib.Omega.{arith}
 use native.Mathlib.Nat.{zero-add}
 use lib.ListN.{length, drop, length-append}
@@ -18,7 +18,8 @@ use Rattle.picture.proofs.TextRows.{text-rows, bytes-rows}
 
 module _ (bytes before : List ℕ) where
   pub not-fitted : length before < length bytes
-      → (refused 12 0 ≡ lengthOf (fitted bytes (length before))) × (before ≡ outputAfter (fitted bytes (length before)) before)
+      → (refused 12 0 ≡ lengthOf (fitted bytes (length before)))
+      × (before ≡ outputAfter (fitted bytes (length before)) before)
   not-fitted h = rw (too-long bytes (length before) h) (refl, refl)
 
   pub fitted-written : {n end : ℕ} {out : List ℕ} → n ≡ length bytes → length bytes ≤ length before
@@ -41,7 +42,8 @@ module _ (numbers sources : List ℕ) where
       ap length (text-rows numbers sources h)
       ∙ omega (arith, length-append (firstLine ++ lines) lastLine, length-append firstLine lines)
 
-  pub text-put : (s : List ℕ) {mid next end : ℕ} {s1 s2 out : List ℕ} → Shows numbers sources → Puts s 0 firstLine mid s1
+  pub text-put : (s : List ℕ) {mid next end : ℕ} {s1 s2 out : List ℕ} → Shows numbers sources
+      → Puts s 0 firstLine mid s1
       → Puts s1 mid lines next s2 → Puts s2 next lastLine end out → Puts s 0 (textOf (shown numbers sources)) end out
   text-put s h p q r =
       let room : 0 ≤ length s = omega arith in

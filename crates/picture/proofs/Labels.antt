@@ -1,9 +1,9 @@
 -- The machines of a group as the label of its node, written one after the other.
 -- Assumes nothing.
-use Prim.Native.Nat.{ℕ, suc, _+_, _*_, _≤_, _<_}
+use Prim.Native.Nat.{ℕ, _+_, _*_, _≤_, _<_}
 use mathlib.Core.Path.{_≡_, refl, sym, ap, _∙_}
 use mathlib.Core.List.{List, [], _∷_, _++_, map, append-assoc, append-nil, List·Memᴰ}
-use mathlib.Core.Bool.{Bool, true, false}
+use mathlib.Core.Bool.{Bool}
 use native.Mathlib.Omega.{arith}
 use native.Mathlib.Numerals.{add-one}
 use native.Mathlib.Nat.{le-antisymm}
@@ -26,10 +26,12 @@ abbrev separator : ℕ → List ℕ → ℕ
 separator first [] = first
 separator first (i ∷ is) = 32
 
-labels-snoc : (first i : ℕ) (is : List ℕ) → labels first (is ++ (i ∷ [])) ≡ labels first is ++ (separator first is ∷ decimal i)
+labels-snoc : (first i : ℕ) (is : List ℕ)
+    → labels first (is ++ (i ∷ [])) ≡ labels first is ++ (separator first is ∷ decimal i)
 unfolding labels
 labels-snoc first i [] = ap (λ l. first ∷ l) (append-nil (decimal i))
-labels-snoc first i (j ∷ []) = ap (λ l. first ∷ l) (ap (λ l. decimal j ++ l) (labels-snoc 32 i []) ∙ sym (append-assoc (decimal j) _ _))
+labels-snoc first i (j ∷ []) =
+    ap (λ l. first ∷ l) (ap (λ l. decimal j ++ l) (labels-snoc 32 i []) ∙ sym (append-assoc (decimal j) _ _))
 labels-snoc first i (j ∷ k ∷ is) =
     ap (λ l. first ∷ l) (ap (λ l. decimal j ++ l) (labels-snoc 32 i (k ∷ is)) ∙ sym (append-assoc (decimal j) _ _))
 
@@ -51,7 +53,8 @@ module _ (s : List ℕ) (at : ℕ) (numbers : List ℕ) (k : ℕ) where
 
   pub labels-none : LabelsUpto at 34 0 s
   unfolding labels filter upTo
-  labels-none = record { inside = omega arith; size = refl; short = omega arith; before-is = refl; puts = puts-none s at }
+  labels-none =
+      record { inside = omega arith; size = refl; short = omega arith; before-is = refl; puts = puts-none s at }
 
   module _ {end before i : ℕ} {out : List ℕ} (u : LabelsUpto end before i out) (l : i < length numbers) where
     pub labels-other : (getD numbers i 0 ≡ k → ⊥) → LabelsUpto end before (i + 1) out
@@ -94,7 +97,8 @@ unfolding labels sum
 labels-length first [] = refl
 labels-length first (i ∷ is) = omega (arith, length-append (decimal i) (labels 32 is), labels-length 32 is)
 
-labels-within : (first : ℕ) (is : List ℕ) → ((i : ℕ) → List·Memᴰ i is → i < 100) → length (labels first is) ≤ 3 * length is
+labels-within : (first : ℕ) (is : List ℕ) → ((i : ℕ) → List·Memᴰ i is → i < 100)
+    → length (labels first is) ≤ 3 * length is
 labels-within first is h =
     omega (
       arith,

@@ -1,7 +1,7 @@
 -- The lines of a text, written piece by piece, and how long they can be.
 -- Assumes nothing.
-use Prim.Native.Nat.{ℕ, suc, _+_, _*_, _≤_, _<_}
-use mathlib.Core.Path.{_≡_, refl, sym, ap, _∙_}
+use Prim.Native.Nat.{ℕ, _+_, _≤_, _<_}
+use mathlib.Core.Path.{_≡_, _∙_}
 use mathlib.Core.List.{List, [], _∷_, _++_, append-assoc}
 use native.Mathlib.Omega.{arith}
 use native.Mathlib.Numerals.{add-one}
@@ -46,7 +46,8 @@ node-short numbers k l h =
       labels-short numbers k l,
     )
 
-pub pair-written : (s : List ℕ) (at a k : ℕ) → at + 2 ≤ length s → set (set s at a) (at + 1) k ≡ written at (a ∷ k ∷ []) s
+pub pair-written : (s : List ℕ) (at a k : ℕ) → at + 2 ≤ length s
+    → set (set s at a) (at + 1) k ≡ written at (a ∷ k ∷ []) s
 unfolding written
 pair-written s at a k h = rw (add-one at) (sets-eq (a ∷ k ∷ []) s at h ∙ append-assoc (take at s) _ _)
 
@@ -68,7 +69,8 @@ module _ (s : List ℕ) (at : ℕ) (room : at ≤ length s) where
       let front = puts-then s at _ _ room (puts-then s at _ _ room p q) r in
       puts-then s at _ _ room (rw (append-assoc (lineStart a) (32 ∷ 45 ∷ 62 ∷ 32 ∷ []) (103 ∷ decimal k)) at front) t
 
-pub node-put : (s numbers : List ℕ) (k : ℕ) {name label mid end : ℕ} {s1 s2 s3 out : List ℕ} → Puts s 0 (lineStart k) name s1
+pub node-put : (s numbers : List ℕ) (k : ℕ) {name label mid end : ℕ} {s1 s2 s3 out : List ℕ}
+    → Puts s 0 (lineStart k) name s1
     → Puts s1 name (32 ∷ 91 ∷ 108 ∷ 97 ∷ 98 ∷ 101 ∷ 108 ∷ 61 ∷ []) label s2
     → Puts s2 label (labels 34 (members numbers k)) mid s3 → Puts s3 mid (34 ∷ 93 ∷ 59 ∷ 10 ∷ []) end out
     → Puts s 0 (nodeLine numbers k) end out

@@ -1,8 +1,8 @@
 -- What a text says, as the code keeps it, and the reply of reading it.
 -- Assumes nothing.
 use Prim.Native.Nat.{ℕ, suc, _≤_, _<_, min}
-use mathlib.Core.Path.{_≡_, refl, sym, ap, ap₂, _∙_}
-use mathlib.Core.List.{List, [], map, Memᴰ·of-map}
+use mathlib.Core.Path.{_≡_, refl, sym, ap, _∙_}
+use mathlib.Core.List.{List, map, Memᴰ·of-map}
 use mathlib.Core.Bool.{Bool, true, false, not, _&&_}
 use native.Mathlib.Omega.{arith}
 use borrow.Author.Tests.{lt-ltb, le-leb, ltb-true, leb-true, not-false}
@@ -11,17 +11,16 @@ use lib.ListN.{length, getD, take}
 use lib.Seq.{length-take-le, getD-take, ext-getD}
 use Rattle.common.specs.Bits.{bit}
 use Rattle.common.specs.Lists.{upTo, all}
-use Rattle.common.specs.Reply.{given, refused, unless, lengthOf, outputAfter}
-use Rattle.common.proofs.Bools.{bool-ext, and-left, and-right, and-intro, and-false-left, and-false-right, not-of-false}
+use Rattle.common.specs.Reply.{refused, lengthOf, outputAfter}
+use Rattle.common.proofs.Bools.{bool-ext, and-left, and-right, and-false-left, and-false-right}
 use Rattle.common.proofs.Lists.{all-at, all-map, all-cong, map-cong}
 use Rattle.common.proofs.Sums.{maximum-is-least}
 use Rattle.common.proofs.Members.{mem-getD, upTo-below, length-map-upTo, getD-map-upTo}
-use Rattle.common.proofs.Reply.{unless-first, unless-later}
 use Rattle.plan.specs.Groups.{Grouping, groupCount}
-use Rattle.picture.specs.Picture.{Edge, Picture, edgesBy, pictureBytes}
+use Rattle.picture.specs.Picture.{Edge, Picture, edgesBy}
 use Rattle.picture.specs.Text.{textOf}
 use Rattle.picture.specs.Reading.{Said, saidNothing, saidAfter, takenApart, inTurn, drawable}
-use Rattle.picture.specs.Graph.{fitted, sameBytes, isText, readAs}
+use Rattle.picture.specs.Graph.{sameBytes, isText, readAs}
 use Rattle.picture.specs.Rows.{joins, Shows, shown, Tells}
 use Rattle.picture.specs.declared.taking.Parts.{Parts}
 use Rattle.picture.specs.Taken.{TakenFrom}
@@ -31,14 +30,16 @@ use Rattle.picture.proofs.Replies.{read-refused}
 -- The replies
 
 pub not-read : (p : Picture) (text before : List ℕ) → isText p text ≡ false
-    → (refused 20 0 ≡ lengthOf (readAs p text (length before))) × (before ≡ outputAfter (readAs p text (length before)) before)
+    → (refused 20 0 ≡ lengthOf (readAs p text (length before)))
+    × (before ≡ outputAfter (readAs p text (length before)) before)
 not-read p text before n = rw (read-refused p text (length before) n) (refl, refl)
 
 undrawable : (p : Picture) (text : List ℕ) → drawable p ≡ false → isText p text ≡ false
 unfolding isText
 undrawable p text n = and-false-left _ n
 
-pub too-many : (p : Picture) (text : List ℕ) {n : ℕ} → length (p .groups) ≡ n → ltb 0 n && leb n 32 ≡ false → isText p text ≡ false
+pub too-many : (p : Picture) (text : List ℕ) {n : ℕ} → length (p .groups) ≡ n → ltb 0 n && leb n 32 ≡ false
+    → isText p text ≡ false
 unfolding drawable
 too-many p text e n = undrawable p text (rw e (and-false-left _ (and-false-left _ n)))
 
@@ -62,7 +63,8 @@ module _ {p : Picture} {numbers sources : List ℕ} (t : Tells p numbers sources
   unfolding drawable
   large-number text n =
       let fails = t .below ∙ n in
-      undrawable p text (rw (t .machines) (and-false-left _ (and-false-right (ltb 0 (length numbers) && leb (length numbers) 32) fails)))
+      let few = ltb 0 (length numbers) && leb (length numbers) 32 in
+      undrawable p text (rw (t .machines) (and-false-left _ (and-false-right few fails)))
 
 below-capped : (g n : ℕ) → n ≤ 32 → ltb (min g 32) n ≡ ltb g n
 below-capped g n l =
@@ -94,7 +96,8 @@ module _ (numbers sources : List ℕ) {count : ℕ} (below : all (λ k. ltb k (l
 pub told-picture : {p : Picture} {numbers sources : List ℕ} {count : ℕ} → Tells p numbers sources
     → all (λ k. ltb k (length numbers)) numbers ≡ true → count ≡ groupCount numbers
     → p ≡ shown numbers (take count sources)
-told-picture {numbers = numbers} {sources} t below counted = t .picture below ∙ ap (λ c. shown numbers (take c sources)) (sym counted)
+told-picture {numbers = numbers} {sources} t below counted =
+    t .picture below ∙ ap (λ c. shown numbers (take c sources)) (sym counted)
 
 module _ (text : List ℕ) (r : Parts) (taken : TakenFrom (saidAfter 0 text saidNothing) r) where
   abbrev said : Said
@@ -151,10 +154,12 @@ module _ (text : List ℕ) (r : Parts) (taken : TakenFrom (saidAfter 0 text said
       same-picture =
           let count = groupCount numbers in
           let sources = take count (r .sources) in
-          let size : length sources ≡ count = length-take-le count (r .sources) (omega (arith, few-numbers, all-sources)) in
+          let size : length sources ≡ count =
+          length-take-le count (r .sources) (omega (arith, few-numbers, all-sources)) in
           let agree : (a k : ℕ) → a < count → k < count → said .joined a k ≡ joins sources a k
           = λ a k h l.
-          sym (ap (λ set. bit set a) (getD-take count (r .sources) k 0 l) ∙ taken .keeps .edges a k (omega (arith, few-numbers)) (omega (arith, few-numbers))) in
+          sym (ap (λ set. bit set a) (getD-take count (r .sources) k 0 l)
+          ∙ taken .keeps .edges a k (omega (arith, few-numbers)) (omega (arith, few-numbers))) in
           ap (λ (g : Grouping). record { groups = g; edges = edgesBy (said .joined) (groupCount g) }) same-groups
           ∙ ap (λ (es : List Edge). record { groups = numbers; edges = es })
           (edgesBy-cong (said .joined) (joins sources) count agree ∙ ap (edgesBy (joins sources)) (sym size))

@@ -2,7 +2,7 @@
 -- Assumes nothing.
 use Prim.Native.Nat.{ℕ, _+_, _*_, _-_, _≤_, _<_}
 use mathlib.Core.Path.{_≡_, refl, sym, ap, _∙_}
-use mathlib.Core.List.{List, [], _∷_, _++_, append-assoc}
+use mathlib.Core.List.{List, [], _++_, append-assoc}
 use mathlib.Core.Bool.{true, false, _&&_}
 use native.Mathlib.Omega.{arith}
 use native.Mathlib.Nat.{le-antisymm, zero-add}
@@ -24,7 +24,8 @@ module _ (numbers sources : List ℕ) (j : ℕ) where
   unfolding rowOf
   node-row-is l = rw (lt-ltb j (length sources) l) refl
 
-  pub edge-row-is : length sources ≤ j → j < 2 * length sources → rowOf numbers sources j ≡ edgeRow sources (j - length sources)
+  pub edge-row-is : length sources ≤ j → j < 2 * length sources
+      → rowOf numbers sources j ≡ edgeRow sources (j - length sources)
   unfolding rowOf
   edge-row-is h l = rw (le-ltb j (length sources) h, lt-ltb j (2 * length sources) l) refl
 
@@ -33,7 +34,8 @@ module _ (numbers sources : List ℕ) (j : ℕ) where
   pair-row-is h = rw (le-ltb j (length sources) (omega arith), le-ltb j (2 * length sources) h) refl
 
 -- a row that was written into an array stands at its beginning
-pub row-stands : (piece s : List ℕ) {out : List ℕ} {n : ℕ} → n ≡ length piece → out ≡ written 0 piece s → take n out ≡ piece
+pub row-stands : (piece s : List ℕ) {out : List ℕ} {n : ℕ} → n ≡ length piece → out ≡ written 0 piece s
+    → take n out ≡ piece
 unfolding written
 row-stands piece s e w = rw w (take-at piece _ _ (sym e))
 
@@ -47,8 +49,8 @@ module _ (numbers sources : List ℕ) (first n : ℕ) where
   counted-none =
       record { inside = omega arith; short = omega arith; counted = sym (ap length (rows-none numbers sources first)) }
 
-  pub counted-next : {r j len : ℕ} → CountedUpto r j → j < n → len ≡ length (rowOf numbers sources (first + j)) → len ≤ 512
-      → CountedUpto (r + len) (j + 1)
+  pub counted-next : {r j len : ℕ} → CountedUpto r j → j < n → len ≡ length (rowOf numbers sources (first + j))
+      → len ≤ 512 → CountedUpto (r + len) (j + 1)
   counted-next {j = j} u l e few =
       record {
         inside = omega arith;
@@ -127,7 +129,8 @@ module _ (text numbers sources : List ℕ) (h : Shows numbers sources) where
 
   next-front : (j : ℕ) → front (j + 1) ≡ front j ++ rowOf numbers sources j
   next-front j =
-      ap (λ r. firstLine ++ r) (rows-next numbers sources 0 j ∙ ap (λ k. rowsFrom numbers sources 0 j ++ rowOf numbers sources k) (zero-add j))
+      ap (λ r. firstLine ++ r)
+      (rows-next numbers sources 0 j ∙ ap (λ k. rowsFrom numbers sources 0 j ++ rowOf numbers sources k) (zero-add j))
       ∙ sym (append-assoc firstLine (rowsFrom numbers sources 0 j) (rowOf numbers sources j))
 
   -- what comes behind the first rows
@@ -164,7 +167,8 @@ module _ (text numbers sources : List ℕ) (h : Shows numbers sources) where
           fronts = rw (next-front j) (front-more (u .fronts) (rowOf numbers sources j) t (ap (λ k. at + k) e));
         }
 
-    pub same-differs : j < count → startsWith (rowOf numbers sources j) (drop at text) ≡ false → false ≡ sameBytes whole text
+    pub same-differs : j < count → startsWith (rowOf numbers sources j) (drop at text) ≡ false
+        → false ≡ sameBytes whole text
     same-differs l n =
         let later = behind (j + 1) (omega arith) in
         let row = rowOf numbers sources j in

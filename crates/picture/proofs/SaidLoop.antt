@@ -11,7 +11,7 @@ use lib.ListN.{length, getD, drop, replicate, getD-replicate, length-replicate, 
 use lib.Seq.{drop-cons}
 use Rattle.common.proofs.Bools.{by-cases}
 use Rattle.sets.proofs.Laws.{bit-none}
-use Rattle.decimal.specs.Decimal.{isDigit, numberAt}
+use Rattle.decimal.specs.Decimal.{isDigit, leadingNumber}
 use Rattle.picture.specs.declared.taking.Last.{Last}
 use Rattle.picture.specs.Reading.{Said, saidNothing, andMachine, andGroup, andNumber, saidAfter}
 use Rattle.picture.specs.Taken.{Says, TakenFrom}
@@ -24,13 +24,13 @@ number-machines b n s = by-cases (eqb b 103) (λ y. rw y (omega arith)) (λ f. r
 -- one byte of a text
 module _ (b x : ℕ) (rest : List ℕ) (s : Said) where
   after-number : (isDigit x && not (isDigit b)) ≡ true
-      → saidAfter b (x ∷ rest) s ≡ saidAfter x rest (andNumber b (numberAt (x ∷ rest)) s)
+      → saidAfter b (x ∷ rest) s ≡ saidAfter x rest (andNumber b (leadingNumber (x ∷ rest)) s)
   unfolding saidAfter
-  after-number e = ap (λ (t : Bool). saidAfter x rest (cond t (andNumber b (numberAt (x ∷ rest)) s) s)) e
+  after-number e = ap (λ (t : Bool). saidAfter x rest (cond t (andNumber b (leadingNumber (x ∷ rest)) s) s)) e
 
   after-other : (isDigit x && not (isDigit b)) ≡ false → saidAfter b (x ∷ rest) s ≡ saidAfter x rest s
   unfolding saidAfter
-  after-other e = ap (λ (t : Bool). saidAfter x rest (cond t (andNumber b (numberAt (x ∷ rest)) s) s)) e
+  after-other e = ap (λ (t : Bool). saidAfter x rest (cond t (andNumber b (leadingNumber (x ∷ rest)) s) s)) e
 
 -- the bytes below i are taken in, the last of them is b
 pub record SaidUpto (text numbers sources : List ℕ) (l : Last) (b i : ℕ) : Type 0 where
@@ -66,7 +66,7 @@ module _ {text : List ℕ} where
 
   module _ {numbers sources : List ℕ} {l : Last} {b i : ℕ} (u : SaidUpto text numbers sources l b i)
       (h : i < length text) {t : Bool} (e : t ≡ (isDigit (getD text i 0) && not (isDigit b))) where
-    pub said-number : {n : ℕ} {numbers' sources' : List ℕ} {l' : Last} → t ≡ true → n ≡ numberAt (drop i text)
+    pub said-number : {n : ℕ} {numbers' sources' : List ℕ} {l' : Last} → t ≡ true → n ≡ leadingNumber (drop i text)
         → length numbers' ≡ length numbers → length sources' ≡ length sources
         → ((s : Said) → Says s numbers sources l → Says (andNumber b n s) numbers' sources' l')
         → SaidUpto text numbers' sources' l' (getD text i 0) (i + 1)
@@ -96,7 +96,8 @@ module _ {text : List ℕ} where
         }
 
   pub said-end : {numbers sources : List ℕ} {l : Last} {b i : ℕ} → SaidUpto text numbers sources l b i → length text ≤ i
-      → TakenFrom (saidAfter 0 text saidNothing) (record { machines = l .machines; numbers = numbers; sources = sources })
+      → TakenFrom (saidAfter 0 text saidNothing)
+      (record { machines = l .machines; numbers = numbers; sources = sources })
   unfolding saidAfter
   said-end {numbers} {sources} {l} {b} {i} u h =
       let q : u .said ≡ saidAfter 0 text saidNothing = rw (drop-of-length-le text h) at (u .rest) in

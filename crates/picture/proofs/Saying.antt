@@ -11,7 +11,7 @@ use lib.Dec.{eqb}
 use lib.ListN.{length}
 use Rattle.common.specs.Lists.{all}
 use Rattle.common.proofs.Bools.{and-left, and-right, cond-false}
-use Rattle.decimal.specs.Decimal.{decimal, isDigit, numberAt}
+use Rattle.decimal.specs.Decimal.{decimal, isDigit, leadingNumber}
 use Rattle.decimal.specs.Meaning.{NoDigitFirst}
 use Rattle.decimal.proofs.Digits.{decimal-digits, some-digit}
 use Rattle.decimal.proofs.ReadBack.{nothing-first, other-first, no-digit-first, number-stays, reads-back}
@@ -38,12 +38,12 @@ said-anywhere a b (x ∷ rest) s h =
 
 pub said-append : (before : ℕ) (xs rest : List ℕ) (s : Said) → NoDigitFirst rest
     → saidAfter before (xs ++ rest) s ≡ saidAfter 0 rest (saidAfter before xs s)
-unfolding saidAfter numberAt
+unfolding saidAfter leadingNumber
 said-append before [] rest s h = said-anywhere before 0 rest s h
 said-append before (x ∷ xs) rest s h =
     let after : ℕ → Said = λ n. cond (isDigit x && not (isDigit before)) (andNumber before n s) s in
     ap (λ n. saidAfter x (xs ++ rest) (after n)) (number-stays 0 (x ∷ xs) rest h)
-    ∙ said-append x xs rest (after (numberAt (x ∷ xs))) h
+    ∙ said-append x xs rest (after (leadingNumber (x ∷ xs))) h
 
 pub said-then : (xs : List ℕ) (b : ℕ) (rest : List ℕ) (s : Said) → isDigit b ≡ false
     → saidAfter 0 (xs ++ (b ∷ rest)) s ≡ saidAfter b rest (saidAfter 0 xs s)
@@ -71,19 +71,19 @@ said-digits before (x ∷ xs) s t h =
     rw (t, and-false (isDigit x)) (said-digits x xs s (and-left _ _ h) (and-right (isDigit x) _ h))
 
 said-first : (before : ℕ) (xs : List ℕ) (s : Said) → isDigit before ≡ false → 0 < length xs → all isDigit xs ≡ true
-    → saidAfter before xs s ≡ andNumber before (numberAt xs) s
+    → saidAfter before xs s ≡ andNumber before (leadingNumber xs) s
 unfolding saidAfter all
 said-first before [] s f l h = absurd (not-suc-le-zero l)
 said-first before (x ∷ xs) s f l h =
     let t = and-left (isDigit x) _ h in
-    rw (t, f) (said-digits x xs (andNumber before (numberAt (x ∷ xs)) s) t (and-right (isDigit x) _ h))
+    rw (t, f) (said-digits x xs (andNumber before (leadingNumber (x ∷ xs)) s) t (and-right (isDigit x) _ h))
 
 said-number : (before n : ℕ) (s : Said) → isDigit before ≡ false → n < 65536
     → saidAfter before (decimal n) s ≡ andNumber before n s
 said-number before n s f h =
     said-first before (decimal n) s f (some-digit n) (decimal-digits n)
     ∙ ap (λ k. andNumber before k s)
-    (ap numberAt (sym (append-nil (decimal n))) ∙ reads-back n [] h nothing-first)
+    (ap leadingNumber (sym (append-nil (decimal n))) ∙ reads-back n [] h nothing-first)
 
 -- Lines
 

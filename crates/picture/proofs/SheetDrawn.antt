@@ -1,15 +1,15 @@
 -- The groups of a sheet, as the code keeps them, show its picture.
 -- Assumes nothing.
 use Prim.Native.Nat.{ℕ, _≤_, _<_}
-use mathlib.Core.Path.{_≡_, refl, sym, ap, ap₂, _∙_}
+use mathlib.Core.Path.{_≡_, refl, ap, _∙_}
 use mathlib.Core.List.{List}
 use native.Mathlib.Omega.{arith}
-use lib.ListN.{length, getD, take}
+use lib.ListN.{length, take}
 use lib.Seq.{length-take-le, getD-take}
 use Rattle.common.specs.Bits.{bit}
-use Rattle.common.specs.Reply.{Reply, given, refused, andThen}
+use Rattle.common.specs.Reply.{refused, andThen}
 use Rattle.sheet.specs.declared.index.Sheet.{Sheet}
-use Rattle.sheet.specs.Model.{Model, machineCount}
+use Rattle.sheet.specs.Model.{Model}
 use Rattle.sheet.specs.Index.{Indexes}
 use Rattle.sheet.specs.Parse.{parse}
 use Rattle.sheet.proofs.Indexed.{indexes-valid}
@@ -20,7 +20,7 @@ use Rattle.plan.proofs.GroupLoops.{few-groups}
 use Rattle.plan.proofs.PlanAnswers.{own-numbers}
 use Rattle.plan.proofs.Planning.{length-groupsOf}
 use Rattle.plan.proofs.SheetNumbers.{numbers-small}
-use Rattle.picture.specs.Picture.{Edge, Picture, edgesBy, namedBy, pictureOf}
+use Rattle.picture.specs.Picture.{Edge, edgesBy, namedBy, pictureOf}
 use Rattle.picture.specs.Text.{textOf}
 use Rattle.picture.specs.Graph.{fitted, graphReply}
 use Rattle.picture.specs.Rows.{joins, Shows, shown}
@@ -31,7 +31,8 @@ module _ {s : List ℕ} {x : Sheet} {m : Model} (i : Indexes s x m) where
   unfolding graphReply andThen
   drawn-reply room = rw (i .passes, i .model)
 
-  module _ {numbers : List ℕ} {r : Groups} (own : numbers ≡ groupsOf m) (g : Partitioned m numbers r) (long : length (r .named) ≡ 32) where
+  module _ {numbers : List ℕ} {r : Groups} (own : numbers ≡ groupsOf m) (g : Partitioned m numbers r)
+      (long : length (r .named) ≡ 32) where
     few : groupCount numbers ≤ 32
     few = few-groups (numbers-small i (own-numbers i own)) refl
 
@@ -52,7 +53,9 @@ module _ {s : List ℕ} {x : Sheet} {m : Model} (i : Indexes s x m) where
     joined : (a k : ℕ) → a < groupCount numbers → k < groupCount numbers
         → joins (take (r .count) (r .named)) a k ≡ namedBy m numbers a k
     unfolding joins namedBy
-    joined a k h l = ap (λ set. bit set a) (getD-take (r .count) (r .named) k 0 (omega (arith, g .count))) ∙ g .named k a (omega (arith, few))
+    joined a k h l =
+        ap (λ set. bit set a) (getD-take (r .count) (r .named) k 0 (omega (arith, g .count)))
+        ∙ g .named k a (omega (arith, few))
 
     pub drawn-picture : shown numbers (take (r .count) (r .named)) ≡ pictureOf m
     unfolding shown pictureOf

@@ -20,7 +20,7 @@ use Rattle.plan.specs.Needs.{names, needs, needGraph}
 use Rattle.plan.specs.Groups.{Grouping, groupCount, members, together, numbered, ready as groupReady}
 use Rattle.plan.specs.Groups.{withNumber as groupNumber, numberedUpto, groupsOf}
 use Rattle.plan.specs.Groups.{movesOf, namesGroup, namedOutside}
-use Rattle.decimal.specs.Decimal.{digit, digits, decimal, isDigit, numberAfter, numberAt}
+use Rattle.decimal.specs.Decimal.{digit, digits, decimal, isDigit, numberAfter, leadingNumber}
 use Rattle.picture.specs.Picture.{Edge, edge, edgesBy, namedBy, pictureOf, pictureBytes}
 use Rattle.picture.specs.Text.{lineStart, labels, nodeLine, edgeLine, textOf}
 use Rattle.picture.specs.Reading.{andMachine, andGroup, andNumber, saidAfter, takenApart, ready, inTurn}
@@ -167,7 +167,7 @@ drawing-holds = refl
 reading-holds : EachReplies readReply reading
 unfolding
     flatMap upTo all any filter find maximum unless groupCount members digit digits decimal isDigit numberAfter
-    numberAt edgesBy pictureBytes lineStart labels nodeLine edgeLine textOf andMachine andGroup andNumber
+    leadingNumber edgesBy pictureBytes lineStart labels nodeLine edgeLine textOf andMachine andGroup andNumber
     saidAfter takenApart ready inTurn drawable fitted sameBytes isText readAs readReply
 reading-holds = refl
 

@@ -4,7 +4,7 @@ use mathlib.Core.List.{List, [], _∷_}
 use mathlib.Core.Bool.{Bool, true, false, not, _&&_}
 use lib.ListN.{length}
 use lib.Dec.{eqb, ltb}
-use Rattle.common.specs.Reply.{Reply, given, Fault, fault, unless, andThen}
+use Rattle.common.specs.Reply.{Reply, given, fault, unless, andThen}
 use Rattle.sheet.specs.Parse.{parse}
 use Rattle.picture.specs.Picture.{Picture, pictureOf, pictureBytes}
 use Rattle.picture.specs.Text.{textOf}

@@ -1,11 +1,11 @@
 -- A text taken apart: loosely, by its numbers alone. What is read is judged by writing it again.
-use Prim.Native.Nat.{ℕ, zero, suc}
+use Prim.Native.Nat.{ℕ, suc}
 use mathlib.Core.List.{List, [], _∷_, map}
-use mathlib.Core.Bool.{Bool, true, false, cond, not, _&&_, _||_}
+use mathlib.Core.Bool.{Bool, false, cond, not, _&&_, _||_}
 use lib.ListN.{length}
 use lib.Dec.{eqb, ltb, leb}
 use Rattle.common.specs.Lists.{upTo, all, any, find}
-use Rattle.decimal.specs.Decimal.{isDigit, numberAt}
+use Rattle.decimal.specs.Decimal.{isDigit, leadingNumber}
 use Rattle.plan.specs.Groups.{groupOf, groupCount}
 use Rattle.picture.specs.Picture.{Picture, edgesBy}
 
@@ -54,7 +54,7 @@ unfoldable pub saidAfter : ℕ → List ℕ → Said → Said
 saidAfter before [] s = s
 saidAfter before (b ∷ rest) s =
     let begins = isDigit b && not (isDigit before) in
-    saidAfter b rest (cond begins (andNumber before (numberAt (b ∷ rest)) s) s)
+    saidAfter b rest (cond begins (andNumber before (leadingNumber (b ∷ rest)) s) s)
 
 unfoldable pub takenApart : List ℕ → Picture
 takenApart text =

@@ -49,8 +49,8 @@ module _ (numbers sources : List ℕ) where
   unfoldable pub rowsFrom : ℕ → ℕ → List ℕ
   rowsFrom first n = flatMap (λ j. rowOf (first + j)) (upTo n)
 
--- A picture of which a text says as much: numbers that are 32 for any larger one, and sources among which there can be more
--- than the picture has groups.
+-- What the code keeps tells the picture of a text: a number over 32 is kept as 32, and there can be sources of more
+-- groups than the picture has.
 pub record Tells (p : Picture) (numbers sources : List ℕ) : Type 0 where
   pub machines : length (p .groups) ≡ length numbers
   pub below : all (λ k. ltb k (length numbers)) (p .groups) ≡ all (λ k. ltb k (length numbers)) numbers

@@ -35,4 +35,5 @@ edgeLine e = lineStart (e .source) ++ (32 ∷ 45 ∷ 62 ∷ 32 ∷ 103 ∷ decim
 
 unfoldable pub textOf : Picture → List ℕ
 textOf p =
-    firstLine ++ flatMap (nodeLine (p .groups)) (upTo (groupCount (p .groups))) ++ flatMap edgeLine (p .edges) ++ lastLine
+    firstLine ++ flatMap (nodeLine (p .groups)) (upTo (groupCount (p .groups)))
+    ++ flatMap edgeLine (p .edges) ++ lastLine

@@ -15,7 +15,7 @@ use sheet::refusal::Cause;
 use sheet::refusal::Verdict;
 ghost use mathlib.Core.Path.{_≡_};
 ghost use mathlib.Core.Bool.{true, _&&_};
-ghost use Prim.Native.Nat.{ℕ, _≤_, _<_};
+ghost use Prim.Native.Nat.{_≤_, _<_};
 ghost use lib.ListN.{length};
 ghost use lib.Dec.{ltb, leb};
 ghost use Rattle.common.specs.Lists.{all};
@@ -28,13 +28,14 @@ ghost use Rattle.picture.specs.Text.{textOf};
 ghost use Rattle.picture.specs.Graph.{fitted, graphReply, isText, readAs, readReply};
 ghost use Rattle.picture.specs.Rows.{Shows, shown, Tells};
 
-// Writes the text of a picture: 12.
+// Writes the text of a picture, if it fits: 12.
 fn write_text(out: &mut [u8], numbers: &[u8], sources: &[u64]) -> Length
     requires { ⌜ Shows (now numbers) (now sources) ⌝ }
-    ensures reply { λ r. ⌜ measuredOf r ≡ lengthOf (fitted (textOf (shown (now (numbers .entry)) (now (sources .entry))))
-        (length (now (out .entry)))) ⌝ }
-    ensures written { λ _. ⌜ now (out .exit) ≡ outputAfter (fitted
-        (textOf (shown (now (numbers .entry)) (now (sources .entry)))) (length (now (out .entry)))) (now (out .entry)) ⌝ }
+    ensures reply { λ r. ⌜ measuredOf r
+        ≡ lengthOf (fitted (textOf (shown (now (numbers .entry)) (now (sources .entry)))) (length (now (out .entry)))) ⌝ }
+    ensures written { λ _. ⌜ now (out .exit)
+        ≡ outputAfter (fitted (textOf (shown (now (numbers .entry)) (now (sources .entry))))
+        (length (now (out .entry)))) (now (out .entry)) ⌝ }
 {
     let lines = Span {
         first: 0,
@@ -50,13 +51,14 @@ fn write_text(out: &mut [u8], numbers: &[u8], sources: &[u64]) -> Length
     Length::Bytes(length)
 }
 
-// Writes a picture in bytes: 12.
+// Writes a picture in bytes, if they fit: 12.
 fn write_bytes(out: &mut [u8], numbers: &[u8], sources: &[u64]) -> Length
     requires { ⌜ Shows (now numbers) (now sources) ⌝ }
-    ensures reply { λ r. ⌜ measuredOf r ≡ lengthOf (fitted (pictureBytes (shown (now (numbers .entry)) (now (sources .entry))))
-        (length (now (out .entry)))) ⌝ }
-    ensures written { λ _. ⌜ now (out .exit) ≡ outputAfter (fitted
-        (pictureBytes (shown (now (numbers .entry)) (now (sources .entry)))) (length (now (out .entry)))) (now (out .entry)) ⌝ }
+    ensures reply { λ r. ⌜ measuredOf r
+        ≡ lengthOf (fitted (pictureBytes (shown (now (numbers .entry)) (now (sources .entry)))) (length (now (out .entry)))) ⌝ }
+    ensures written { λ _. ⌜ now (out .exit)
+        ≡ outputAfter (fitted (pictureBytes (shown (now (numbers .entry)) (now (sources .entry))))
+        (length (now (out .entry)))) (now (out .entry)) ⌝ }
 {
     let n = numbers.len();
     let edges = Span {
@@ -79,7 +81,8 @@ fn draw_read(file: &[u8], sheet: Sheet, out: &mut [u8]) -> Length
     ensures reply { λ r. ⌜ ((m : Model) → Indexes (now (file .entry)) sheet m
         → measuredOf r ≡ lengthOf (fitted (textOf (pictureOf m)) (length (now (out .entry))))) ⌝ }
     ensures written { λ _. ⌜ ((m : Model) → Indexes (now (file .entry)) sheet m
-        → now (out .exit) ≡ outputAfter (fitted (textOf (pictureOf m)) (length (now (out .entry)))) (now (out .entry))) ⌝ }
+        → now (out .exit)
+        ≡ outputAfter (fitted (textOf (pictureOf m)) (length (now (out .entry)))) (now (out .entry))) ⌝ }
 {
     let n = sheet.machines;
     let numbers = plan::grouping::groups(file, sheet);
@@ -133,7 +136,8 @@ fn read_numbers(text: &[u8], numbers: &[u8], sources: &[u64], out: &mut [u8]) ->
     ensures reply { λ r. ⌜ ((p : Picture) → Tells p (now (numbers .entry)) (now (sources .entry))
         → measuredOf r ≡ lengthOf (readAs p (now (text .entry)) (length (now (out .entry))))) ⌝ }
     ensures written { λ _. ⌜ ((p : Picture) → Tells p (now (numbers .entry)) (now (sources .entry))
-        → now (out .exit) ≡ outputAfter (readAs p (now (text .entry)) (length (now (out .entry)))) (now (out .entry))) ⌝ }
+        → now (out .exit)
+        ≡ outputAfter (readAs p (now (text .entry)) (length (now (out .entry)))) (now (out .entry))) ⌝ }
 {
     if !all_below(numbers, numbers.len()) {
         return Length::Refused(Cause::NotAPicture, 0);

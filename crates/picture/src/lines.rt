@@ -2,7 +2,7 @@
 use plan::writing::put_bytes;
 use sheet::record::wide;
 ghost use mathlib.Core.Path.{_≡_};
-ghost use mathlib.Core.List.{_∷_, [], _++_};
+ghost use mathlib.Core.List.{_∷_, []};
 ghost use Prim.Native.Nat.{_+_, _*_, _≤_, _<_};
 ghost use lib.ListN.{length};
 ghost use Rattle.decimal.specs.Decimal.{decimal};
@@ -22,7 +22,7 @@ pub fn put(row: &mut [u8], at: usize, bytes: &[u8]) -> usize
     at + bytes.len()
 }
 
-// Writes a number behind a byte.
+// Writes a byte and a number behind it.
 fn put_number(row: &mut [u8], at: usize, before: u8, n: usize) -> usize
     requires { ⌜ (at + 3 ≤ length (now row)) × (n < 32) ⌝ }
     ensures end { λ r. ⌜ r ≡ at + length (before ∷ decimal n) ⌝ }
@@ -42,7 +42,7 @@ fn put_name(row: &mut [u8], at: usize, k: usize) -> usize
     put_number(row, end, b'g', k)
 }
 
-// Writes the machines of a group.
+// Writes the machines of a group, the first behind a quote and each other behind a space.
 fn put_labels(row: &mut [u8], at: usize, numbers: &[u8], k: usize) -> usize
     requires { ⌜ (at + 3 * length (now numbers) ≤ length (now row)) × (length (now numbers) ≤ 32) ⌝ }
     ensures end { λ r. ⌜ r ≡ at + length (labels 34 (members (now (numbers .entry)) k)) ⌝ }

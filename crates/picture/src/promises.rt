@@ -9,7 +9,7 @@ pub fn examples_draw()
     ensures { λ _. ⌜ ExamplesDraw ⌝ }
 {}
 
-// The picture of a sheet has the sheet's groups and needs; a text is read exactly if it is that of some sheet's picture.
+// A sheet's picture has the sheet's groups and needs; a text is read exactly if it is that of some sheet's picture.
 pub fn pictures_are_right()
     ensures { λ _. ⌜ PicturesRight ⌝ }
 {}

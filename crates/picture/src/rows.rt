@@ -40,7 +40,8 @@ fn put_row(row: &mut [u8], numbers: &[u8], sources: &[u64], j: usize) -> usize
 pub fn rows_length(numbers: &[u8], sources: &[u64], span: Span) -> usize
     requires { ⌜ Shows (now numbers) (now sources) × (span .first + span .n ≤ 3 * length (now sources)) ⌝ }
     ensures short { λ r. ⌜ r ≤ 49152 ⌝ }
-    ensures length { λ r. ⌜ r ≡ length (rowsFrom (now (numbers .entry)) (now (sources .entry)) (span .first) (span .n)) ⌝ }
+    ensures length { λ r. ⌜ r
+        ≡ length (rowsFrom (now (numbers .entry)) (now (sources .entry)) (span .first) (span .n)) ⌝ }
 {
     let mut row = [0u8; 512];
     let first = span.first;
@@ -61,7 +62,8 @@ pub fn put_rows(out: &mut [u8], at: usize, numbers: &[u8], sources: &[u64], span
     ensures end { λ r. ⌜ r
         ≡ at + length (rowsFrom (now (numbers .entry)) (now (sources .entry)) (span .first) (span .n)) ⌝ }
     ensures written { λ _. ⌜ now (out .exit)
-        ≡ written at (rowsFrom (now (numbers .entry)) (now (sources .entry)) (span .first) (span .n)) (now (out .entry)) ⌝ }
+        ≡ written at (rowsFrom (now (numbers .entry)) (now (sources .entry)) (span .first) (span .n))
+        (now (out .entry)) ⌝ }
 {
     let mut row = [0u8; 512];
     let first = span.first;
@@ -103,7 +105,8 @@ fn stands(text: &[u8], at: usize, bytes: &[u8]) -> bool
 // The text is that of the picture.
 pub fn same_text(text: &[u8], numbers: &[u8], sources: &[u64]) -> bool
     requires { ⌜ Shows (now numbers) (now sources) ⌝ }
-    ensures { λ r. ⌜ r ≡ sameBytes (textOf (shown (now (numbers .entry)) (now (sources .entry)))) (now (text .entry)) ⌝ }
+    ensures { λ r. ⌜ r
+        ≡ sameBytes (textOf (shown (now (numbers .entry)) (now (sources .entry)))) (now (text .entry)) ⌝ }
 {
     if !stands(text, 0, b"digraph groups {\n") {
         return false;
