@@ -15,34 +15,34 @@ indexed : (c : tie.After-enum-told)
     → Indexed (c .before .before .before .before .before .args .file .now) (c .before .before .read .result .sheet)
 indexed c = accepted-indexed _ _ (c .before .before .read .ensures .0) (c .enum-told .given .1)
 
--- src/graph.rt:98:9
+-- src/graph.rt:101:9
 read-requires : tie.Need-read-requires
 read-requires c κs = search needs
 
--- src/graph.rt:100:26
+-- src/graph.rt:103:26
 enum-known-verdict : tie.Need-enum-known-verdict
 enum-known-verdict c = search needs
 
--- src/graph.rt:101:47
+-- src/graph.rt:104:47
 enum-told : tie.Need-enum-told
 enum-told c = search needs
 
--- src/graph.rt:101:9
+-- src/graph.rt:104:9
 draw-read-requires : tie.Need-draw-read-requires
 draw-read-requires c κs = indexed (c .before)
 
--- src/graph.rt:101:9
+-- src/graph.rt:104:9
 same-length : tie.Need-same-length
 same-length c = search needs
 
--- src/graph.rt:101:9
+-- src/graph.rt:104:9
 returns : tie.Need-returns
 returns c =
     let i = indexed (c .before .before .before .before) in
     let told = c .before .before .draw-read .ensures in
     rw (drawn-reply (i .1) _) (told .0 (i .0) (i .1), told .1 (i .0) (i .1))
 
--- src/graph.rt:93:1
+-- src/graph.rt:96:1
 returns-2 : tie.Need-returns-2
 returns-2 c =
     let e = refused-parse _ _ (c .before .before .before .read .ensures .0) (c .before .verdict .given .1) in

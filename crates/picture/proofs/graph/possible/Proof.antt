@@ -5,11 +5,11 @@ use Rattle.picture.proofs.graph.possible.Tie as tie
 use Rattle.picture.proofs.graph.possible.Reads as reads
 use Rattle.picture.proofs.graph.possible.Lts as lts
 
--- src/graph.rt:146:1
+-- src/graph.rt:150:1
 returns : tie.Need-returns
 returns c = rw (lt-ltb _ _ (c .if1 .taken)) refl
 
--- src/graph.rt:146:1
+-- src/graph.rt:150:1
 returns-2 : tie.Need-returns-2
 returns-2 c = rw (le-ltb _ _ (c .if1 .left)) refl
 

@@ -1,7 +1,6 @@
 use Prim.Native.Nat.{_-_}
 use mathlib.Core.Path.{sym, _∙_}
 use mathlib.Core.Logic.{⊎-elim}
-use mathlib.Core.List.{[], _∷_}
 use native.Mathlib.Nat.{zero-add}
 use native.Mathlib.Omega.{arith}
 use borrow.Author.Needs.{needs}
@@ -37,13 +36,16 @@ shared-slice-read-has c = search needs
 
 -- src/lines.rt:98:12
 has-requires : tie.Need-has-requires Inv-loop μ-loop
-has-requires c κs = omega (arith, c .before .before .before .before .before .pre .2)
+has-requires c κs =
+    let start = c .before .before .before .before .before in
+    omega (arith, start .pre .2)
 
 -- src/lines.rt:99:13
 put-edge-requires : tie.Need-put-edge-requires Inv-loop μ-loop
 put-edge-requires c κs =
-    let start = c .before .before .before .before .before .before .before .before in
-    let u = c .before .before .before .before .before .loop .inv in
+    let at-loop = c .before .before .before .before .before in
+    let start = at-loop .before .before .before in
+    let u = at-loop .loop .inv in
     let l = c .before .before .before .before .loop-test .taken in
     (omega (arith, u .size, u .short, start .pre .0, start .pre .1, l), start .pre .2, omega (arith, start .pre .1, l))
 
@@ -58,12 +60,16 @@ loop-less c = search needs
 -- src/lines.rt:97:5
 loop-again : tie.Need-loop-again Inv-loop μ-loop
 loop-again c =
-    let start = c .before .before .before .before .before .before .before in
+    let at-loop-test = c .before .before .before in
+    let start = at-loop-test .before .before .before .before in
     let u = c .before .before .before .before .loop .inv in
-    let l = c .before .before .before .loop-test .taken in
+    let l = at-loop-test .loop-test .taken in
     let has = sym (c .before .has .ensures) in
     ⊎-elim
-    (λ w. rw (w .5, w .6) (row-more _ _ _ _ _ u l (has ∙ w .0 .taken) (edge-short _ _ (start .pre .2) (omega (arith, start .pre .1, c .before .before .before .loop-test .taken))) (w .2 .kept .0) (w .2 .ensures)))
+    (λ w.
+    rw (w .5, w .6) (row-more _ _ _ _ _ u l (has ∙ w .0 .taken)
+    (edge-short _ _ (start .pre .2) (omega (arith, start .pre .1, at-loop-test .loop-test .taken))) (w .2 .kept .0)
+    (w .2 .ensures)))
     (λ w. rw (w .1, w .2) (row-other _ _ _ _ _ u l (has ∙ w .0 .left)))
     (c .if1 .came)
 

@@ -33,9 +33,13 @@ wide-requires c κs = search needs
 -- src/lines.rt:57:13
 put-number-requires : tie.Need-put-number-requires Inv-loop μ-loop
 put-number-requires c κs =
-    let start = c .before .before .before .before .before .before .before .before in
-    let u = c .before .before .before .before .before .loop .inv in
-    (omega (arith, u .size, u .short, u .inside, start .pre .0, c .before .before .before .before .loop-test .taken), omega (arith, start .pre .1, c .before .before .before .before .loop-test .taken))
+    let at-loop-test = c .before .before .before .before in
+    let at-loop = at-loop-test .before in
+    let start = at-loop .before .before .before in
+    let u = at-loop .loop .inv in (
+      omega (arith, u .size, u .short, u .inside, start .pre .0, at-loop-test .loop-test .taken),
+      omega (arith, start .pre .1, at-loop-test .loop-test .taken),
+    )
 
 -- src/lines.rt:60:9
 add-i : tie.Need-add-i Inv-loop μ-loop

@@ -27,8 +27,10 @@ same-length c = search needs
 -- src/lines.rt:36:1
 returns : tie.Need-returns
 returns c =
-    let start = c .before .before .before .before .before .before .before .before .before .before in
-    name-put (start .args .row .now) _ (omega (arith, start .pre .0)) _ (c .before .before .before .before .before .before .put .ensures) (c .before .before .put-number .ensures)
+    let at-put = c .before .before .before .before .before .before in
+    let start = at-put .before .before .before .before in
+    name-put (start .args .row .now) _ (omega (arith, start .pre .0)) _ (at-put .put .ensures)
+    (c .before .before .put-number .ensures)
 
 pub put-name-spec : {M : Type 1} → statement M
 put-name-spec =

@@ -23,14 +23,34 @@ slice-aggregate-put c = search needs
 -- src/lines.rt:72:9
 put-requires : tie.Need-put-requires
 put-requires c κs =
-    let start = c .before .before .before .before .before .before .before .before in
-    omega (arith, c .before .before .before .before .put-name .ensures .0, c .before .before .before .before .put-name .kept .0, start .pre .0, name-short (start .args .k) (start .pre .2))
+    let at-put-name = c .before .before .before .before in
+    let start = at-put-name .before .before .before .before in
+    omega (
+      arith,
+      at-put-name .put-name .ensures .0,
+      at-put-name .put-name .kept .0,
+      start .pre .0,
+      name-short (start .args .k) (start .pre .2),
+    )
 
 -- src/lines.rt:73:9
 put-labels-requires : tie.Need-put-labels-requires
 put-labels-requires c κs =
-    let start = c .before .before .before .before .before .before .before .before .before .before .before .before in
-    (omega (arith, c .before .before .before .before .before .before .before .before .put-name .ensures .0, c .before .before .before .before .before .before .before .before .put-name .kept .0, c .before .before .before .put .ensures .0, c .before .before .before .put .kept .0, start .pre .0, start .pre .1, name-short (start .args .k) (start .pre .2)), start .pre .1)
+    let at-put = c .before .before .before in
+    let at-put-name = at-put .before .before .before .before .before in
+    let start = at-put-name .before .before .before .before in (
+      omega (
+        arith,
+        at-put-name .put-name .ensures .0,
+        at-put-name .put-name .kept .0,
+        at-put .put .ensures .0,
+        at-put .put .kept .0,
+        start .pre .0,
+        start .pre .1,
+        name-short (start .args .k) (start .pre .2),
+      ),
+      start .pre .1,
+    )
 
 -- src/lines.rt:74:19
 slice-aggregate-put-2 : tie.Need-slice-aggregate-put-2
@@ -39,8 +59,23 @@ slice-aggregate-put-2 c = search needs
 -- src/lines.rt:74:5
 put-requires-2 : tie.Need-put-requires-2
 put-requires-2 c κs =
-    let start = c .before .before .before .before .before .before .before .before .before .before .before .before .before .before .before .before .before in
-    omega (arith, c .before .before .before .before .before .before .before .before .before .before .before .before .before .put-name .ensures .0, c .before .before .before .before .before .before .before .before .before .before .before .before .before .put-name .kept .0, c .before .before .before .before .before .before .before .before .put .ensures .0, c .before .before .before .before .before .before .before .before .put .kept .0, c .before .before .before .before .put-labels .ensures .0, c .before .before .before .before .put-labels .kept .0, start .pre .0, start .pre .1, name-short (start .args .k) (start .pre .2), labels-short (start .args .numbers .now) (start .args .k) (start .pre .1))
+    let at-put-labels = c .before .before .before .before in
+    let at-put = at-put-labels .before .before .before .before in
+    let at-put-name = at-put .before .before .before .before .before in
+    let start = at-put-name .before .before .before .before in
+    omega (
+      arith,
+      at-put-name .put-name .ensures .0,
+      at-put-name .put-name .kept .0,
+      at-put .put .ensures .0,
+      at-put .put .kept .0,
+      at-put-labels .put-labels .ensures .0,
+      at-put-labels .put-labels .kept .0,
+      start .pre .0,
+      start .pre .1,
+      name-short (start .args .k) (start .pre .2),
+      labels-short (start .args .numbers .now) (start .args .k) (start .pre .1),
+    )
 
 -- src/lines.rt:66:1
 same-length : tie.Need-same-length
@@ -49,11 +84,14 @@ same-length c = search needs
 -- src/lines.rt:66:1
 returns : tie.Need-returns
 returns c =
-    let start = c .before .before .before .before .before .before .before .before .before .before .before .before .before .before .before .before .before .before .before .before in
+    let at-put-labels = c .before .before .before .before .before .before .before in
+    let at-put = at-put-labels .before .before .before .before in
+    let at-put-name = at-put .before .before .before .before .before in
+    let start = at-put-name .before .before .before .before in
     let numbers = start .args .numbers .now in
     let k = start .args .k in
-    let r = node-put (start .args .row .now) numbers k (c .before .before .before .before .before .before .before .before .before .before .before .before .before .before .before .before .put-name .ensures) (c .before .before .before .before .before .before .before .before .before .before .before .put .ensures)
-    (c .before .before .before .before .before .before .before .put-labels .ensures) (c .before .before .put2 .ensures) in
+    let r = node-put (start .args .row .now) numbers k (at-put-name .put-name .ensures) (at-put .put .ensures)
+    (at-put-labels .put-labels .ensures) (c .before .before .put2 .ensures) in
     (r .0 ∙ zero-add _, (omega (arith, r .0, node-short numbers k (start .pre .1) (start .pre .2)), r .1))
 
 pub put-node-spec : {M : Type 1} → statement M

@@ -21,17 +21,26 @@ add-put c = search needs
 
 -- src/lines.rt:32:5
 put-requires : tie.Need-put-requires
-put-requires c κs = rw length-set (omega (arith, c .before .before .pre .0, two-digits (c .before .before .args .n) (omega (arith, c .before .before .pre .1))))
+put-requires c κs =
+    rw length-set
+    (omega (
+      arith,
+      c .before .before .pre .0,
+      two-digits (c .before .before .args .n) (omega (arith, c .before .before .pre .1)),
+    ))
 
 -- src/lines.rt:26:1
 same-length : tie.Need-same-length
-same-length c = c .before .before .put .kept .0 ∙ length-set (c .before .before .before .before .before .args .row .now) _ _
+same-length c =
+    let start = c .before .before .before .before .before in
+    c .before .before .put .kept .0 ∙ length-set (start .args .row .now) _ _
 
 -- src/lines.rt:26:1
 returns : tie.Need-returns
 returns c =
     let start = c .before .before .before .before .before in
-    number-put (start .args .row .now) _ (omega (arith, start .pre .0)) _ _ (put-byte (start .args .row .now) _ _ (omega (arith, start .pre .0))) (c .before .before .put .ensures)
+    number-put (start .args .row .now) _ (omega (arith, start .pre .0)) _ _
+    (put-byte (start .args .row .now) _ _ (omega (arith, start .pre .0))) (c .before .before .put .ensures)
 
 pub put-number-spec : {M : Type 1} → statement M
 put-number-spec = tie.close (tie.spec slice-write-row add-put put-requires same-length returns)

@@ -35,13 +35,16 @@ shared-slice-read-has c = search needs
 
 -- src/lines.rt:126:12
 has-requires : tie.Need-has-requires Inv-loop μ-loop
-has-requires c κs = omega (arith, c .before .before .before .before .before .pre .2)
+has-requires c κs =
+    let start = c .before .before .before .before .before in
+    omega (arith, start .pre .2)
 
 -- src/lines.rt:127:13
 put-pair-requires : tie.Need-put-pair-requires Inv-loop μ-loop
 put-pair-requires c κs =
-    let start = c .before .before .before .before .before .before .before .before in
-    let u = c .before .before .before .before .before .loop .inv in
+    let at-loop = c .before .before .before .before .before in
+    let start = at-loop .before .before .before in
+    let u = at-loop .loop .inv in
     let l = c .before .before .before .before .loop-test .taken in
     (omega (arith, u .size, u .short, start .pre .0, start .pre .1, l), start .pre .2, omega (arith, start .pre .1, l))
 

@@ -18,55 +18,77 @@ Inv-loop out₀ at numbers sources row₀ first n end₀ j₀ out row end j = (l
 abbrev μ-loop : tie.MeasureT-loop
 μ-loop out₀ at numbers sources row₀ first n end₀ j₀ out row end j = n - j
 
--- src/rows.rt:70:5
+-- src/rows.rt:71:5
 loop-holds : tie.Need-loop-holds Inv-loop μ-loop
 loop-holds c = (refl, rows-start _ _ _ _ _ _)
 
--- src/rows.rt:71:27
+-- src/rows.rt:72:27
 slice-aggregate-put-row : tie.Need-slice-aggregate-put-row Inv-loop μ-loop
 slice-aggregate-put-row c = sym (c .before .before .loop .inv .0)
 
--- src/rows.rt:71:59
+-- src/rows.rt:72:59
 add-put-row : tie.Need-add-put-row Inv-loop μ-loop
-add-put-row c = omega (arith, c .before .before .before .before .before .before .pre .1, c .before .loop-test .taken, c .before .before .before .before .before .before .pre .0 .few-groups)
+add-put-row c =
+    let start = c .before .before .before .before .before .before in
+    omega (arith, start .pre .1, c .before .loop-test .taken, start .pre .0 .few-groups)
 
--- src/rows.rt:71:13
+-- src/rows.rt:72:13
 put-row-requires : tie.Need-put-row-requires Inv-loop μ-loop
 put-row-requires c κs =
-    (omega (arith, c .before .before .loop .inv .0), c .before .before .before .before .before .before .pre .0, omega (arith, c .before .before .before .before .before .before .pre .1, c .before .loop-test .taken))
+    let start = c .before .before .before .before .before .before in (
+      omega (arith, c .before .before .loop .inv .0),
+      start .pre .0,
+      omega (arith, start .pre .1, c .before .loop-test .taken),
+    )
 
--- src/rows.rt:72:29
+-- src/rows.rt:73:29
 array-share-prefix-row : tie.Need-array-share-prefix-row Inv-loop μ-loop
-array-share-prefix-row c = omega (arith, c .before .before .put-row .ensures .1 .0, c .before .before .put-row .kept .0, c .before .before .before .before .before .loop .inv .0)
+array-share-prefix-row c =
+    let at-loop = c .before .before .before .before .before in
+    omega (arith, c .before .before .put-row .ensures .1 .0, c .before .before .put-row .kept .0, at-loop .loop .inv .0)
 
--- src/rows.rt:72:29
+-- src/rows.rt:73:29
 slice-aggregate-put : tie.Need-slice-aggregate-put Inv-loop μ-loop
-slice-aggregate-put c = c .before .before .before .put-row .ensures .0 ∙ sym (ap length (row-stands (rowOf _ _ _) _ (c .before .before .before .put-row .ensures .0) (c .before .before .before .put-row .ensures .1 .1)))
-
--- src/rows.rt:72:9
-put-requires : tie.Need-put-requires Inv-loop μ-loop
-put-requires c κs =
-    let start = c .before .before .before .before .before .before .before .before .before .before in
-    let room = rows-room _ _ _ _ _ _ (c .before .before .before .before .before .before .loop .inv .1) (c .before .before .before .before .before .loop-test .taken) (start .pre .2) in
-    omega (arith, room, ap length (row-stands (rowOf _ _ _) _ (c .before .before .before .put-row .ensures .0) (c .before .before .before .put-row .ensures .1 .1)))
+slice-aggregate-put c =
+    let at-put-row = c .before .before .before in
+    at-put-row .put-row .ensures .0
+    ∙ sym (ap length (row-stands (rowOf _ _ _) _ (at-put-row .put-row .ensures .0) (at-put-row .put-row .ensures .1 .1)))
 
 -- src/rows.rt:73:9
+put-requires : tie.Need-put-requires Inv-loop μ-loop
+put-requires c κs =
+    let at-put-row = c .before .before .before in
+    let at-loop-test = at-put-row .before .before in
+    let at-loop = at-loop-test .before in
+    let start = at-loop .before .before .before .before in
+    let room = rows-room _ _ _ _ _ _ (at-loop .loop .inv .1) (at-loop-test .loop-test .taken) (start .pre .2) in
+    omega (
+      arith,
+      room,
+      ap length (row-stands (rowOf _ _ _) _ (at-put-row .put-row .ensures .0) (at-put-row .put-row .ensures .1 .1)),
+    )
+
+-- src/rows.rt:74:9
 add-j : tie.Need-add-j Inv-loop μ-loop
 add-j c = search needs
 
--- src/rows.rt:70:5
+-- src/rows.rt:71:5
 loop-less : tie.Need-loop-less Inv-loop μ-loop
 loop-less c = search needs
 
--- src/rows.rt:70:5
+-- src/rows.rt:71:5
 loop-again : tie.Need-loop-again Inv-loop μ-loop
 loop-again c =
-    let start = c .before .before .before .before .before .before .before .before .before .before .before .before .before in
+    let at-put-row = c .before .before .before .before .before .before in
+    let at-loop-test = at-put-row .before .before in
+    let at-loop = at-loop-test .before in
+    let start = at-loop .before .before .before .before in
     let put = c .before .before .put in
-    let row = c .before .before .before .before .before .before .put-row in
-    let piece = row-stands (rowOf _ _ _) _ (c .before .before .before .before .before .before .put-row .ensures .0) (c .before .before .before .before .before .before .put-row .ensures .1 .1) in (
-      row .kept .0 ∙ c .before .before .before .before .before .before .before .before .before .loop .inv .0,
-      rows-more _ _ _ _ _ _ (c .before .before .before .before .before .before .before .before .before .loop .inv .1) (c .before .before .before .before .before .before .before .before .loop-test .taken) (omega (arith, start .pre .2)) (put .kept .0)
+    let row = at-put-row .put-row in
+    let piece = row-stands (rowOf _ _ _) _ (at-put-row .put-row .ensures .0) (at-put-row .put-row .ensures .1 .1) in (
+      row .kept .0 ∙ at-loop .loop .inv .0,
+      rows-more _ _ _ _ _ _ (at-loop .loop .inv .1) (at-loop-test .loop-test .taken) (omega (arith, start .pre .2))
+          (put .kept .0)
           (rw piece at (put .ensures)),
     )
 

@@ -26,18 +26,31 @@ slice-aggregate-put-row c = sym (c .before .before .loop .inv .0)
 
 -- src/rows.rt:50:54
 add-put-row : tie.Need-add-put-row Inv-loop μ-loop
-add-put-row c = omega (arith, c .before .before .before .before .before .pre .1, c .before .loop-test .taken, c .before .before .before .before .before .pre .0 .few-groups)
+add-put-row c =
+    let start = c .before .before .before .before .before in
+    omega (arith, start .pre .1, c .before .loop-test .taken, start .pre .0 .few-groups)
 
 -- src/rows.rt:50:14
 put-row-requires : tie.Need-put-row-requires Inv-loop μ-loop
 put-row-requires c κs =
-    (omega (arith, c .before .before .loop .inv .0), c .before .before .before .before .before .pre .0, omega (arith, c .before .before .before .before .before .pre .1, c .before .loop-test .taken))
+    let start = c .before .before .before .before .before in (
+      omega (arith, c .before .before .loop .inv .0),
+      start .pre .0,
+      omega (arith, start .pre .1, c .before .loop-test .taken),
+    )
 
 -- src/rows.rt:50:9
 add-r : tie.Need-add-r Inv-loop μ-loop
 add-r c =
     let start = c .before .before .before .before .before .before .before in
-    omega (arith, c .before .before .before .before .loop .inv .1 .short, c .before .put-row .ensures .1 .0, c .before .before .before .loop-test .taken, start .pre .1, start .pre .0 .few-groups)
+    omega (
+      arith,
+      c .before .before .before .before .loop .inv .1 .short,
+      c .before .put-row .ensures .1 .0,
+      c .before .before .before .loop-test .taken,
+      start .pre .1,
+      start .pre .0 .few-groups,
+    )
 
 -- src/rows.rt:51:9
 add-j : tie.Need-add-j Inv-loop μ-loop
@@ -50,15 +63,21 @@ loop-less c = search needs
 -- src/rows.rt:49:5
 loop-again : tie.Need-loop-again Inv-loop μ-loop
 loop-again c =
-    let put = c .before .put-row in
-    (put .kept .0 ∙ c .before .before .before .before .loop .inv .0, counted-next _ _ _ _ (c .before .before .before .before .loop .inv .1) (c .before .before .before .loop-test .taken) (put .ensures .0) (put .ensures .1 .0))
+    let at-loop = c .before .before .before .before in
+    let put = c .before .put-row in (
+      put .kept .0 ∙ at-loop .loop .inv .0,
+      counted-next _ _ _ _ (at-loop .loop .inv .1) (c .before .before .before .loop-test .taken) (put .ensures .0)
+          (put .ensures .1 .0),
+    )
 
--- src/rows.rt:40:1
+-- src/rows.rt:39:1
 returns : tie.Need-returns Inv-loop μ-loop
 returns c =
     let start = c .before .before .before .before in
-    let u = c .before .loop .inv .1 in
-    (omega (arith, u .short, u .inside, start .pre .1, start .pre .0 .few-groups), counted-end _ _ _ _ (c .before .loop .inv .1) (c .loop-test .left))
+    let u = c .before .loop .inv .1 in (
+      omega (arith, u .short, u .inside, start .pre .1, start .pre .0 .few-groups),
+      counted-end _ _ _ _ (c .before .loop .inv .1) (c .loop-test .left),
+    )
 
 pub rows-length-spec : {M : Type 1} → statement M
 rows-length-spec =

@@ -34,7 +34,8 @@ wide-requires c κs = search needs
 
 ready-in-requires : tie.Need-ready-in-requires Inv-loop μ-loop
 ready-in-requires c κs =
-    let shows = c .before .before .before .before .before .before .before .before .before .pre .0 in
+    let start = c .before .before .before .before .before .before .before .before .before in
+    let shows = start .pre .0 in
     let small = number-below shows _ (c .before .before .loop-test .taken) in
     (rw (c .wide .ensures .0) small, shows .few-groups)
 
