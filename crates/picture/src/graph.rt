@@ -31,8 +31,8 @@ ghost use Rattle.picture.specs.Rows.{Shows, shown, Tells};
 // Writes the text of a picture, if it fits: 12.
 fn write_text(out: &mut [u8], numbers: &[u8], sources: &[u64]) -> Length
     requires { ⌜ Shows (now numbers) (now sources) ⌝ }
-    ensures reply { λ r. ⌜ measuredOf r
-        ≡ lengthOf (fitted (textOf (shown (now (numbers .entry)) (now (sources .entry)))) (length (now (out .entry)))) ⌝ }
+    ensures reply { λ r. ⌜ measuredOf r ≡ lengthOf (fitted
+        (textOf (shown (now (numbers .entry)) (now (sources .entry)))) (length (now (out .entry)))) ⌝ }
     ensures written { λ _. ⌜ now (out .exit)
         ≡ outputAfter (fitted (textOf (shown (now (numbers .entry)) (now (sources .entry))))
         (length (now (out .entry)))) (now (out .entry)) ⌝ }
@@ -54,8 +54,8 @@ fn write_text(out: &mut [u8], numbers: &[u8], sources: &[u64]) -> Length
 // Writes a picture in bytes, if they fit: 12.
 fn write_bytes(out: &mut [u8], numbers: &[u8], sources: &[u64]) -> Length
     requires { ⌜ Shows (now numbers) (now sources) ⌝ }
-    ensures reply { λ r. ⌜ measuredOf r
-        ≡ lengthOf (fitted (pictureBytes (shown (now (numbers .entry)) (now (sources .entry)))) (length (now (out .entry)))) ⌝ }
+    ensures reply { λ r. ⌜ measuredOf r ≡ lengthOf (fitted
+        (pictureBytes (shown (now (numbers .entry)) (now (sources .entry)))) (length (now (out .entry)))) ⌝ }
     ensures written { λ _. ⌜ now (out .exit)
         ≡ outputAfter (fitted (pictureBytes (shown (now (numbers .entry)) (now (sources .entry))))
         (length (now (out .entry)))) (now (out .entry)) ⌝ }

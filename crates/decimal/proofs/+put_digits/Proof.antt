@@ -40,7 +40,8 @@ put-digits-put-digit-requires : (t : ℕ) → put-digits-lts.Need-put-digit-requ
   put-digits.Post,
 ) (put-digits-at t) put-digits.Post
 put-digits-put-digit-requires t c κs =
-    room-last (c .before .before .before .before .args .out .now) _ _ _ (c .before .before .if1 .left) (c .before .if2 .taken) (c .before .before .before .before .pre .1)
+    room-last (c .before .before .before .before .args .out .now) _ _ _ (c .before .before .if1 .left)
+    (c .before .if2 .taken) (c .before .before .before .before .pre .1)
 
 -- src/lib.rt:30:9
 put-digits-same-length : (t : ℕ) → put-digits-lts.Need-same-length (
@@ -60,7 +61,8 @@ put-digits-returns-2 : (t : ℕ) → put-digits-lts.Need-returns-2 (
   put-digits.Post,
 ) (put-digits-at t) put-digits.Post
 put-digits-returns-2 t c =
-    put-last _ _ _ _ (c .before .before .before .before .before .if1 .left) (c .before .before .before .before .if2 .taken) (c .before .before .put-digit .ensures)
+    put-last _ _ _ _ (c .before .before .before .before .before .if1 .left)
+    (c .before .before .before .before .if2 .taken) (c .before .before .put-digit .ensures)
 
 -- src/lib.rt:32:43
 put-digits-sub-put-digits : (t : ℕ) → put-digits-lts.Need-sub-put-digits (
@@ -79,8 +81,14 @@ put-digits-put-digits-requires : (t : ℕ) → put-digits-lts.Need-put-digits-re
   put-digits-below t,
   put-digits.Post,
 ) (put-digits-at t) put-digits.Post
-put-digits-put-digits-requires t c κs =
-    (omega (arith, c .before .before .before .before .pre .0, c .before .before .if1 .left), omega (arith, room-more (c .before .before .before .before .args .out .now) _ _ _ (c .before .before .if1 .left) (c .before .if2 .left) (c .before .before .before .before .pre .1)))
+put-digits-put-digits-requires t c κs = (
+  omega (arith, c .before .before .before .before .pre .0, c .before .before .if1 .left),
+  omega (
+    arith,
+    room-more (c .before .before .before .before .args .out .now) _ _ _ (c .before .before .if1 .left)
+        (c .before .if2 .left) (c .before .before .before .before .pre .1),
+  ),
+)
 
 -- src/lib.rt:33:5
 put-digits-put-digit-requires-2 : (t : ℕ) → put-digits-lts.Need-put-digit-requires-2 (
@@ -90,7 +98,15 @@ put-digits-put-digit-requires-2 : (t : ℕ) → put-digits-lts.Need-put-digit-re
   put-digits.Post,
 ) (put-digits-at t) put-digits.Post
 put-digits-put-digit-requires-2 t c κs =
-    omega (arith, c .before .before .before .put-digits .ensures .0, c .before .before .before .put-digits .kept .0, room-more (c .before .before .before .before .before .before .before .before .args .out .now) _ _ _ (c .before .before .before .before .before .before .if1 .left) (c .before .before .before .before .before .if2 .left) (c .before .before .before .before .before .before .before .before .pre .1))
+    omega (
+      arith,
+      c .before .before .before .put-digits .ensures .0,
+      c .before .before .before .put-digits .kept .0,
+      room-more (c .before .before .before .before .before .before .before .before .args .out .now) _ _ _
+          (c .before .before .before .before .before .before .if1 .left)
+          (c .before .before .before .before .before .if2 .left)
+          (c .before .before .before .before .before .before .before .before .pre .1),
+    )
 
 -- src/lib.rt:21:1
 put-digits-same-length-2 : (t : ℕ) → put-digits-lts.Need-same-length-2 (
@@ -110,7 +126,10 @@ put-digits-returns-3 : (t : ℕ) → put-digits-lts.Need-returns-3 (
   put-digits.Post,
 ) (put-digits-at t) put-digits.Post
 put-digits-returns-3 t c =
-    put-more _ _ _ _ (c .before .before .before .before .before .before .before .before .before .if1 .left) (c .before .before .before .before .before .before .before .before .if2 .left) (omega (arith, c .before .before .before .before .before .before .before .before .before .before .before .pre .1)) (c .before .before .before .before .before .before .put-digits .ensures) (c .before .before .put-digit2 .ensures)
+    put-more _ _ _ _ (c .before .before .before .before .before .before .before .before .before .if1 .left)
+    (c .before .before .before .before .before .before .before .before .if2 .left)
+    (omega (arith, c .before .before .before .before .before .before .before .before .before .before .before .pre .1))
+    (c .before .before .before .before .before .before .put-digits .ensures) (c .before .before .put-digit2 .ensures)
 
 pub +put-digits-spec : {M : Type 1} → statement M
 +put-digits-spec = close μ-put-digits λ t. put-digits-lts.spec (

@@ -43,7 +43,12 @@ wide-requires c κs = search needs
 
 -- src/lib.rt:59:24
 sub-n : tie.Need-sub-n Inv-loop μ-loop
-sub-n c = omega (arith, c .wide .ensures .0, digit-above (sym (c .before .before .before .is-digit .ensures) ∙ c .before .before .if1 .taken))
+sub-n c =
+    omega (
+      arith,
+      c .wide .ensures .0,
+      digit-above (sym (c .before .before .before .is-digit .ensures) ∙ c .before .before .if1 .taken),
+    )
 
 -- src/lib.rt:59:14
 add-n : tie.Need-add-n Inv-loop μ-loop
@@ -59,11 +64,16 @@ loop-less c = search needs
 
 -- src/lib.rt:58:5
 loop-again : tie.Need-loop-again Inv-loop μ-loop
-loop-again c = rw (c .wide .ensures .0) (read-next (c .before .before .before .before .before .before .loop .inv) (c .before .before .before .before .before .loop-test .taken) (sym (c .before .before .before .is-digit .ensures) ∙ c .before .before .if1 .taken))
+loop-again c =
+    rw (c .wide .ensures .0) (read-next (c .before .before .before .before .before .before .loop .inv)
+    (c .before .before .before .before .before .loop-test .taken)
+    (sym (c .before .before .before .is-digit .ensures) ∙ c .before .before .if1 .taken))
 
 -- src/lib.rt:53:1
 returns : tie.Need-returns Inv-loop μ-loop
-returns c = read-end (c .before .before .before .before .loop .inv) (sym (c .before .is-digit .ensures) ∙ c .if1 .left) (c .before .before .before .loop-test .taken)
+returns c =
+    read-end (c .before .before .before .before .loop .inv) (sym (c .before .is-digit .ensures) ∙ c .if1 .left)
+    (c .before .before .before .loop-test .taken)
 
 -- src/lib.rt:53:1
 returns-2 : tie.Need-returns-2 Inv-loop μ-loop

@@ -59,7 +59,8 @@ loop-again c =
     ⊎-elim
     (λ w.
     rw (w .5, w .6, w .7)
-    (labels-more _ _ _ _ u l (wide ∙ w .0 .taken) (start .pre .1) (omega (arith, start .pre .0)) (w .2 .kept .0) (w .2 .ensures)))
+    (labels-more _ _ _ _ u l (wide ∙ w .0 .taken) (start .pre .1) (omega (arith, start .pre .0)) (w .2 .kept .0)
+    (w .2 .ensures)))
     (λ w. rw (w .1, w .2, w .3) (labels-other _ _ _ _ u l (λ e. w .0 .left (sym wide ∙ e))))
     (c .if1 .came)
 

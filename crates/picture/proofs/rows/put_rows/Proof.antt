@@ -13,7 +13,8 @@ use Rattle.picture.proofs.lines.put.Reads as put-reads
 use Rattle.picture.proofs.rows.put_row.Reads as put-row-reads
 
 abbrev Inv-loop : tie.InvT-loop
-Inv-loop out₀ at numbers sources row₀ first n end₀ j₀ out row end j = (length row ≡ 512) × RowsUpto numbers sources first n out₀ at end j out
+Inv-loop out₀ at numbers sources row₀ first n end₀ j₀ out row end j =
+    (length row ≡ 512) × RowsUpto numbers sources first n out₀ at end j out
 
 abbrev μ-loop : tie.MeasureT-loop
 μ-loop out₀ at numbers sources row₀ first n end₀ j₀ out row end j = n - j

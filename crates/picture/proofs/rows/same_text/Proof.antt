@@ -6,7 +6,8 @@ use lib.ListN.{length}
 use borrow.Author.Tests.{not-true, not-false}
 use Rattle.picture.specs.Rows.{Shows, rowOf}
 use Rattle.picture.proofs.Matching.{front-inside}
-use Rattle.picture.proofs.RowLoops.{SameUpto, same-start, same-other, same-next, same-differs, same-end, row-stands}
+use Rattle.picture.proofs.RowLoops.{SameUpto, same-start, same-other, same-next, same-differs}
+use Rattle.picture.proofs.RowLoops.{same-end, row-stands}
 use Rattle.picture.proofs.rows.same_text.Statement.{statement}
 use Rattle.picture.proofs.rows.same_text.Tie as tie
 use Rattle.picture.proofs.rows.same_text.Reads as reads
