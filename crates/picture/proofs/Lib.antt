@@ -18,6 +18,7 @@ pub mod ReadySets
 pub mod Replies
 pub mod RowLoops
 pub mod SaidLoop
+pub mod SaidPlaces
 pub mod Saying
 pub mod SayingEdges
 pub mod SayingNodes

@@ -1,14 +1,38 @@
 -- How the code keeps what the numbers of a text have said.
-use Prim.Native.Nat.{ℕ, _<_, min}
+use Prim.Native.Nat.{ℕ, zero, suc, _≤_, _<_, min}
 use mathlib.Core.Path.{_≡_}
 use mathlib.Core.List.{List}
-use mathlib.Core.Bool.{Bool, _&&_, _||_}
+use mathlib.Core.Bool.{Bool, true, false, _&&_, _||_}
 use lib.Dec.{eqb}
-use lib.ListN.{length, getD}
+use lib.ListN.{length, getD, drop}
 use Rattle.common.specs.Bits.{bit}
+use Rattle.decimal.specs.Decimal.{isDigit}
 use Rattle.picture.specs.declared.taking.Last.{Last}
 use Rattle.picture.specs.declared.taking.Parts.{Parts}
-use Rattle.picture.specs.Reading.{Said}
+use Rattle.picture.specs.Reading.{Said, saidAfter}
+
+-- the byte before a place, 0 before the first
+unfoldable pub byteBefore : List ℕ → ℕ → ℕ
+byteBefore text zero = 0
+byteBefore text (suc i) = getD text i 0
+
+-- what a text says from a place on
+unfoldable pub saidFrom : List ℕ → ℕ → Said → Said
+saidFrom text i s = saidAfter (byteBefore text i) (drop i text) s
+
+-- a text says the same from place i on as from place j on
+pub record Skipped (text : List ℕ) (i j : ℕ) : Type 0 where
+  pub on : i ≤ j
+  pub same : (s : Said) → saidFrom text i s ≡ saidFrom text j s
+
+-- a digit at a place, if there is one, is behind no other digit
+pub record Apart (text : List ℕ) (i : ℕ) : Type 0 where
+  pub apart : i < length text → isDigit (getD text i 0) ≡ true → isDigit (byteBefore text i) ≡ false
+
+-- a number begins at a place
+pub record Begins (text : List ℕ) (i : ℕ) : Type 0 where
+  pub digit : isDigit (getD text i 0) ≡ true
+  pub first : isDigit (byteBefore text i) ≡ false
 
 -- the groups of the machines below 32, 32 for any larger number, and the edges between groups below 32
 pub record Keeps (s : Said) (numbers sources : List ℕ) : Type 0 where

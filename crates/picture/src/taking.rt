@@ -1,12 +1,12 @@
 // Taking a text apart, by its numbers alone.
 use decimal::is_digit;
 ghost use mathlib.Core.Path.{_≡_};
-ghost use mathlib.Core.Bool.{not, _&&_};
+ghost use mathlib.Core.Bool.{true};
 ghost use Prim.Native.Nat.{_<_, min};
 ghost use lib.ListN.{length, set};
 ghost use Rattle.decimal.specs.Decimal.{isDigit};
 ghost use Rattle.picture.specs.Reading.{Said, saidNothing, andMachine, andGroup, andNumber, saidAfter};
-ghost use Rattle.picture.specs.Taken.{EdgeKept, Says, TakenFrom};
+ghost use Rattle.picture.specs.Taken.{byteBefore, Skipped, Apart, Begins, EdgeKept, Says, TakenFrom};
 
 // How many numbers of machines there were, the group named last, and whether it waits for the target of an edge.
 pub struct Last {
@@ -90,11 +90,41 @@ fn take_number(numbers: &mut [u8], sources: &mut [u64], last: Last, before: u8, 
     take_machine(numbers, last, n)
 }
 
-// Whether a number begins at a byte behind another.
-fn begins(before: u8, b: u8) -> bool
-    ensures { λ r. ⌜ r ≡ (isDigit b && not (isDigit before)) ⌝ }
+// The byte before a place, 0 before the first.
+fn byte_before(text: &[u8], i: usize) -> u8
+    requires { ⌜ i < length (now text) ⌝ }
+    ensures { λ r. ⌜ r ≡ byteBefore (now (text .entry)) i ⌝ }
 {
-    is_digit(b) && !is_digit(before)
+    if i == 0 {
+        return 0;
+    }
+    text[i - 1]
+}
+
+// The first place from i on that has a digit, or a place behind the text.
+fn next_digit(text: &[u8], i: usize) -> usize
+    requires { ⌜ Apart (now text) i ⌝ }
+    ensures skipped { λ r. ⌜ Skipped (now (text .entry)) i r ⌝ }
+    ensures begins { λ r. ⌜ (r < length (now (text .entry)) → Begins (now (text .entry)) r) ⌝ }
+{
+    let mut j = i;
+    while j < text.len() && !is_digit(text[j]) {
+        j += 1;
+    }
+    j
+}
+
+// The first place from i on that has no digit, where i is behind one.
+fn behind_digits(text: &[u8], i: usize) -> usize
+    requires { ⌜ isDigit (byteBefore (now text) i) ≡ true ⌝ }
+    ensures skipped { λ r. ⌜ Skipped (now (text .entry)) i r ⌝ }
+    ensures apart { λ r. ⌜ Apart (now (text .entry)) r ⌝ }
+{
+    let mut j = i;
+    while j < text.len() && is_digit(text[j]) {
+        j += 1;
+    }
+    j
 }
 
 // What a text says.
@@ -108,20 +138,16 @@ pub fn taken(text: &[u8]) -> Parts
         group: 0,
         waits: false,
     };
-    let mut before: u8 = 0;
-    let mut i: usize = 0;
+    let mut i = next_digit(text, 0);
     while i < text.len() {
-        if begins(before, text[i]) {
-            last = take_number(
-                &mut numbers[..],
-                &mut sources[..],
-                last,
-                before,
-                decimal::read(text, i),
-            );
-        }
-        before = text[i];
-        i += 1;
+        last = take_number(
+            &mut numbers[..],
+            &mut sources[..],
+            last,
+            byte_before(text, i),
+            decimal::read(text, i),
+        );
+        i = next_digit(text, behind_digits(text, i + 1));
     }
     Parts {
         machines: last.machines,
