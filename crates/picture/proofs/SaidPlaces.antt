@@ -79,7 +79,7 @@ skipped-next {text} {i} {j} k h e =
 -- Up to the next digit
 
 -- no digit from i up to j
-pub record Passed (text : List ℕ) (i j : ℕ) : Type 0 where
+pub record Looked (text : List ℕ) (i j : ℕ) : Type 0 where
   pub skipped : Skipped text i j
   pub rest : Apart text j
 
@@ -88,19 +88,19 @@ unfolding byteBefore isDigit
 apart-none = record { apart = λ h d. refl }
 
 module _ {text : List ℕ} {i : ℕ} where
-  pub passed-none : Apart text i → Passed text i i
-  passed-none a = record { skipped = skipped-none text i; rest = a }
+  pub looked-none : Apart text i → Looked text i i
+  looked-none a = record { skipped = skipped-none text i; rest = a }
 
-  module _ {j : ℕ} (p : Passed text i j) where
-    pub passed-next : j < length text → isDigit (getD text j 0) ≡ false → Passed text i (j + 1)
-    passed-next h d =
+  module _ {j : ℕ} (p : Looked text i j) where
+    pub looked-next : j < length text → isDigit (getD text j 0) ≡ false → Looked text i (j + 1)
+    looked-next h d =
         record {
           skipped = skipped-next (p .skipped) h (and-false-left _ d);
           rest = record { apart = λ l e. rw (byte-at text j) d };
         }
 
-    pub passed-digit : isDigit (getD text j 0) ≡ true → j < length text → Begins text j
-    passed-digit d h = record { digit = d; first = p .rest .apart h d }
+    pub looked-digit : isDigit (getD text j 0) ≡ true → j < length text → Begins text j
+    looked-digit d h = record { digit = d; first = p .rest .apart h d }
 
 -- Behind the digits of a number
 
