@@ -51,6 +51,18 @@ pub fn put(out: &mut [u8], at: usize, n: usize) -> usize
     put_digits(out, at, n, 5)
 }
 
+// How many digits a number below 100 has.
+pub fn width(n: usize) -> usize
+    requires { ⌜ n < 100 ⌝ }
+    ensures length { λ r. ⌜ r ≡ length (decimal n) ⌝ }
+    ensures short { λ r. ⌜ r ≤ 2 ⌝ }
+{
+    if n < 10 {
+        return 1;
+    }
+    2
+}
+
 // 0 to 9.
 pub fn is_digit(b: u8) -> bool
     ensures { λ r. ⌜ r ≡ isDigit b ⌝ }

@@ -39,9 +39,12 @@ separator-snoc : (first i : ℕ) (is : List ℕ) → separator first (is ++ (i �
 separator-snoc first i [] = refl
 separator-snoc first i (j ∷ is) = refl
 
+abbrev pub isMember : List ℕ → ℕ → ℕ → Bool
+isMember numbers k i = eqb (groupOf numbers i) k
+
 module _ (s : List ℕ) (at : ℕ) (numbers : List ℕ) (k : ℕ) where
   abbrev mine : ℕ → Bool
-  mine i = eqb (groupOf numbers i) k
+  mine = isMember numbers k
 
   -- the machines of the group below i are written
   pub record LabelsUpto (end before i : ℕ) (out : List ℕ) : Type 0 where
@@ -111,7 +114,7 @@ module _ (numbers : List ℕ) (k : ℕ) where
   pub labels-short : length numbers ≤ 32 → length (labels 34 (members numbers k)) ≤ 96
   unfolding members
   labels-short l =
-      let p : ℕ → Bool = λ i. eqb (groupOf numbers i) k in
+      let p = isMember numbers k in
       let n = length numbers in
       omega (
         arith,

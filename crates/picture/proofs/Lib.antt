@@ -16,6 +16,7 @@ pub mod Pieces
 pub mod ReadDrawn
 pub mod ReadySets
 pub mod Replies
+pub mod RowLengths
 pub mod RowLoops
 pub mod SaidLoop
 pub mod SaidPlaces

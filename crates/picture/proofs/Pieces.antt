@@ -20,21 +20,23 @@ pub name-short : (k : ℕ) → k < 32 → length (lineStart k) ≤ 5
 unfolding lineStart
 name-short k l = omega (arith, two-digits k (omega arith))
 
-pub edge-short : (a k : ℕ) → a < 32 → k < 32 → length (edgeLine (edge a k)) ≤ 14
-unfolding edgeLine
-edge-short a k l h =
+pub edge-length : (a k : ℕ) → length (edgeLine (edge a k)) ≡ 10 + length (decimal a) + length (decimal k)
+unfolding edgeLine lineStart
+edge-length a k =
     let arrow : List ℕ = 32 ∷ 45 ∷ 62 ∷ 32 ∷ 103 ∷ decimal k in
     omega (
       arith,
       length-append (lineStart a ++ arrow) (59 ∷ 10 ∷ []),
       length-append (lineStart a) arrow,
-      name-short a l,
-      two-digits k (omega arith),
     )
 
-pub node-short : (numbers : List ℕ) (k : ℕ) → length numbers ≤ 32 → k < 32 → length (nodeLine numbers k) ≤ 512
-unfolding nodeLine
-node-short numbers k l h =
+pub edge-short : (a k : ℕ) → a < 32 → k < 32 → length (edgeLine (edge a k)) ≤ 14
+edge-short a k l h = omega (arith, edge-length a k, two-digits a (omega arith), two-digits k (omega arith))
+
+pub node-length : (numbers : List ℕ) (k : ℕ)
+    → length (nodeLine numbers k) ≡ 15 + length (decimal k) + length (labels 34 (members numbers k))
+unfolding nodeLine lineStart
+node-length numbers k =
     let label : List ℕ = 32 ∷ 91 ∷ 108 ∷ 97 ∷ 98 ∷ 101 ∷ 108 ∷ 61 ∷ [] in
     let machines = labels 34 (members numbers k) in
     omega (
@@ -42,9 +44,11 @@ node-short numbers k l h =
       length-append (lineStart k ++ label ++ machines) (34 ∷ 93 ∷ 59 ∷ 10 ∷ []),
       length-append (lineStart k ++ label) machines,
       length-append (lineStart k) label,
-      name-short k h,
-      labels-short numbers k l,
     )
+
+pub node-short : (numbers : List ℕ) (k : ℕ) → length numbers ≤ 32 → k < 32 → length (nodeLine numbers k) ≤ 512
+node-short numbers k l h =
+    omega (arith, node-length numbers k, two-digits k (omega arith), labels-short numbers k l)
 
 pub pair-written : (s : List ℕ) (at a k : ℕ) → at + 2 ≤ length s
     → set (set s at a) (at + 1) k ≡ written at (a ∷ k ∷ []) s

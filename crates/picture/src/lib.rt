@@ -1,5 +1,6 @@
 // The picture of who needs whom: written as a text, and read back.
 pub mod graph;
+pub mod lengths;
 pub mod lines;
 pub mod promises;
 pub mod rows;

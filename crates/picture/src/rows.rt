@@ -1,4 +1,5 @@
 // A picture row by row: how long the rows are, writing them, and comparing them with a text.
+use crate::lengths::row_length;
 use crate::lines::put;
 use crate::lines::put_edges;
 use crate::lines::put_node;
@@ -43,13 +44,12 @@ pub fn rows_length(numbers: &[u8], sources: &[u64], span: Span) -> usize
     ensures length { λ r. ⌜ r
         ≡ length (rowsFrom (now (numbers .entry)) (now (sources .entry)) (span .first) (span .n)) ⌝ }
 {
-    let mut row = [0u8; 512];
     let first = span.first;
     let n = span.n;
     let mut r: usize = 0;
     let mut j: usize = 0;
     while j < n {
-        r += put_row(&mut row[..], numbers, sources, first + j);
+        r += row_length(numbers, sources, first + j);
         j += 1;
     }
     r
