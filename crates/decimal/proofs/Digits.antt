@@ -1,7 +1,7 @@
 -- The digits of a number: that they are digits, how many there are, and the first.
 -- Assumes nothing.
 use Prim.Native.Nat.{ℕ, zero, suc, _+_, _/_, _%_, _^_, _≤_, _<_}
-use mathlib.Core.Path.{_≡_, refl, sym, _∙_}
+use mathlib.Core.Path.{_≡_, refl, sym, ap, _∙_}
 use mathlib.Core.List.{[], _∷_, _++_, List·Memᴰ}
 use mathlib.Core.Bool.{true, false}
 use native.Mathlib.Nat.{pow-suc}
@@ -73,13 +73,16 @@ pub some-digit : (n : ℕ) → 0 < length (decimal n)
 unfolding decimal
 some-digit n = digits-some 4 n
 
-pub two-digits : (n : ℕ) → n < 100 → length (decimal n) ≤ 2
-unfolding decimal
-two-digits n h =
+-- one digit more than it has room for changes nothing
+pub digits-enough : (most n : ℕ) → n < 10 ^ suc most → digits (suc (suc most)) n ≡ digits (suc most) n
+digits-enough zero n h = digits-one 1 n (omega arith) ∙ sym (digits-one 0 n (omega arith))
+digits-enough (suc most) n h =
     by-cases (ltb n 10)
-    (λ t. rw (digits-one 4 n (ltb-true n 10 t)) (omega arith))
+    (λ t. let l = ltb-true n 10 t in digits-one (suc (suc most)) n l ∙ sym (digits-one (suc most) n l))
     (λ f.
-    rw (digits-more 4 n f, digits-one 3 (n / 10) (omega arith)) (omega arith))
+    digits-more (suc (suc most)) n f
+    ∙ ap (λ front. front ++ (digit (n % 10) ∷ [])) (digits-enough most (n / 10) (omega (arith, pow-suc 10 (suc most))))
+    ∙ sym (digits-more (suc most) n f))
 
 -- The first
 

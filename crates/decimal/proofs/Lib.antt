@@ -1,4 +1,6 @@
 pub mod Digits
+pub mod Exact
 pub mod Putting
 pub mod ReadBack
-pub mod Reading
+pub mod Short
+pub mod Standing

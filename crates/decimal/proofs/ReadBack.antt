@@ -1,19 +1,18 @@
 -- Reading a number: digits one after the other, up to where they end, and what is written is read back.
 -- Assumes nothing.
-use Prim.Native.Nat.{ℕ, zero, suc, _+_, _*_, _-_, _/_, _%_, _^_, _<_}
+use Prim.Native.Nat.{ℕ, zero, suc, _+_, _*_, _-_, _/_, _%_, _^_, _<_, min}
 use mathlib.Core.Path.{_≡_, refl, ap, _∙_}
 use mathlib.Core.List.{List, [], _∷_, _++_}
 use mathlib.Core.Bool.{true, false}
-use native.Mathlib.Nat.{pow-suc, mod-eq-of-lt}
+use native.Mathlib.Nat.{pow-suc}
 use native.Mathlib.Omega.{arith}
 use borrow.Author.Tests.{ltb-true}
 use lib.Dec.{ltb}
 use Rattle.common.specs.Lists.{all}
 use Rattle.common.proofs.Bools.{by-cases, and-left, and-right, true-false, false-of-not-true}
 use Rattle.decimal.specs.Decimal.{digit, digits, decimal, isDigit, numberAfter, leadingNumber}
-use Rattle.decimal.specs.Meaning.{NoDigitFirst, DecimalRight}
+use Rattle.decimal.specs.Meaning.{NoDigitFirst}
 use Rattle.decimal.proofs.Digits.{digits-are, digit-is, digit-from, digit-within}
-use Rattle.decimal.proofs.Digits.{digits-only, some-digit, no-leading-zero}
 
 -- Texts that do not begin with a digit
 
@@ -42,7 +41,7 @@ number-stays a (b ∷ xs) rest h =
     by-cases (isDigit b) (λ t. rw t (number-stays _ xs rest h)) (λ f. rw f)
 
 -- digits are read one after the other
-number-goes-on : (a : ℕ) (xs rest : List ℕ) → all isDigit xs ≡ true
+pub number-goes-on : (a : ℕ) (xs rest : List ℕ) → all isDigit xs ≡ true
     → numberAfter a (xs ++ rest) ≡ numberAfter (numberAfter a xs) rest
 unfolding numberAfter all
 number-goes-on a [] rest h = refl
@@ -53,9 +52,10 @@ number-goes-on a (b ∷ xs) rest h =
 number-digit : (a d : ℕ) → d < 10 → 10 * a + d < 65536 → numberAfter a (digit d ∷ []) ≡ 10 * a + d
 unfolding numberAfter digit
 number-digit a d h l =
-    rw (digit-is d h) (mod-eq-of-lt {n = 10 * a + (48 + d - 48)} {m = 65536} (omega arith) ∙ omega arith)
+    let e : min (10 * a + (48 + d - 48)) 65536 ≡ 10 * a + d = omega arith in
+    rw (digit-is d h) e
 
-read-digits : (most n : ℕ) → n < 10 ^ most → n < 65536 → numberAfter 0 (digits most n) ≡ n
+pub read-digits : (most n : ℕ) → n < 10 ^ most → n < 65536 → numberAfter 0 (digits most n) ≡ n
 unfolding digits numberAfter
 read-digits zero n h l = omega arith
 read-digits (suc most) n h l =
@@ -72,12 +72,3 @@ read-digits (suc most) n h l =
 pub reads-back : (n : ℕ) (rest : List ℕ) → n < 65536 → NoDigitFirst rest → leadingNumber (decimal n ++ rest) ≡ n
 unfolding leadingNumber decimal
 reads-back n rest h e = number-stays 0 (digits 5 n) rest e ∙ read-digits 5 n (omega arith) h
-
-pub decimals-right : DecimalRight
-decimals-right =
-    record {
-      digits-only = digits-only;
-      some-digit = some-digit;
-      no-leading-zero = no-leading-zero;
-      reads-back = reads-back;
-    }

@@ -1,13 +1,18 @@
 // Decimal numbers in a text of bytes: written without leading zeros, and read.
 pub mod promises;
+pub mod text;
 
+use crate::text::has;
 use sheet::record::wide;
 ghost use mathlib.Core.Path.{_≡_};
-ghost use Prim.Native.Nat.{_+_, _%_, _≤_, _<_};
+ghost use mathlib.Core.Bool.{true};
+ghost use Prim.Native.Nat.{_+_, _-_, _%_, _≤_, _<_};
 ghost use mathlib.Core.List.{[], _∷_};
-ghost use lib.ListN.{length, drop};
+ghost use lib.ListN.{length, getD, drop};
 ghost use Rattle.plan.specs.Written.{written};
-ghost use Rattle.decimal.specs.Decimal.{digit, digits, decimal, isDigit, leadingNumber};
+ghost use Rattle.decimal.specs.Decimal.{digit, digits, decimal, isDigit};
+ghost use Rattle.decimal.specs.Decimal.{startsWith, readNumber};
+ghost use Rattle.decimal.specs.Digits.{Starts};
 
 // Writes the last digit of a number at a place, and gives the place behind it.
 fn put_digit(out: &mut [u8], at: usize, n: usize) -> usize
@@ -63,22 +68,66 @@ pub fn width(n: usize) -> usize
     2
 }
 
+// A number below 100 stands at a place of a text.
+pub fn stands(text: &[u8], at: usize, n: usize) -> bool
+    requires { ⌜ (at ≤ length (now text)) × (n < 100) ⌝ }
+    ensures { λ r. ⌜ r ≡ startsWith (decimal n) (drop at (now (text .entry))) ⌝ }
+{
+    if n < 10 {
+        return has(text, at, 48 + n as u8);
+    }
+    has(text, at, 48 + (n / 10) as u8) && has(text, at + 1, 48 + (n % 10) as u8)
+}
+
 // 0 to 9.
-pub fn is_digit(b: u8) -> bool
+fn is_digit(b: u8) -> bool
     ensures { λ r. ⌜ r ≡ isDigit b ⌝ }
 {
     48 <= b && b < 58
 }
 
-// The number that begins at a place of a text, modulo 65,536; 0 where none does.
-pub fn read(text: &[u8], at: usize) -> usize
-    ensures { λ r. ⌜ r ≡ leadingNumber (drop at (now (text .entry))) ⌝ }
+// A digit stands at a place of a text.
+fn digit_at(text: &[u8], at: usize) -> bool
+    ensures { λ r. ⌜ r ≡ isDigit (getD (now (text .entry)) at 0) ⌝ }
 {
-    let mut n: usize = 0;
-    let mut i = at;
-    while i < text.len() && is_digit(text[i]) {
-        n = (10 * n + (wide(text[i]) - 48)) % 65536;
+    at < text.len() && is_digit(text[at])
+}
+
+// The value of the digit at a place of a text.
+fn value_at(text: &[u8], at: usize) -> usize
+    requires { ⌜ isDigit (getD (now text) at 0) ≡ true ⌝ }
+    ensures { λ r. ⌜ (r ≡ getD (now (text .entry)) at 0 - 48) × (r < 10) ⌝ }
+{
+    wide(text[at]) - 48
+}
+
+// The number that goes on behind its first digit, at a place of a text.
+fn read_on(text: &[u8], at: usize, first: usize) -> usize
+    requires { ⌜ Starts (now text) at first ⌝ }
+    ensures { λ r. ⌜ r ≡ readNumber (drop at (now (text .entry))) ⌝ }
+{
+    let mut n = first;
+    let mut i = at + 1;
+    while digit_at(text, i) {
+        n = 10 * n + value_at(text, i);
+        if 65535 < n {
+            return 65536;
+        }
         i += 1;
     }
     n
+}
+
+// The number below 65,536 that is written at a place of a text, 65,536 where none is.
+pub fn read(text: &[u8], at: usize) -> usize
+    ensures { λ r. ⌜ r ≡ readNumber (drop at (now (text .entry))) ⌝ }
+{
+    if !digit_at(text, at) {
+        return 65536;
+    }
+    let first = value_at(text, at);
+    if first == 0 && digit_at(text, at + 1) {
+        return 65536;
+    }
+    read_on(text, at, first)
 }

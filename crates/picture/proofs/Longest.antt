@@ -22,7 +22,7 @@ use Rattle.plan.specs.Groups.{Grouping, groupOf, groupCount, groupsOf, members}
 use Rattle.picture.specs.Picture.{Edge, edge, Picture, edgesBy, namedBy, pictureOf}
 use Rattle.picture.specs.Text.{firstLine, lastLine, lineStart, labels, nodeLine, edgeLine, textOf}
 use Rattle.picture.specs.Drawn.{LongestRight}
-use Rattle.picture.proofs.Labels.{labelled, labels-length}
+use Rattle.picture.proofs.Labels.{labelLength, labels-length}
 use Rattle.picture.proofs.Edges.{edgesBy-members}
 use Rattle.picture.proofs.Numbers.{pictures-are-drawable}
 use Rattle.picture.proofs.DrawableMeans.{Drawable, drawable-means, few-groups}
@@ -35,7 +35,7 @@ abbrev nodeFrame : ℕ → ℕ
 nodeFrame k = 15 + length (decimal k)
 
 node-length : (groups : Grouping) (k : ℕ)
-    → length (nodeLine groups k) ≡ nodeFrame k + sum (map labelled (members groups k))
+    → length (nodeLine groups k) ≡ nodeFrame k + sum (map labelLength (members groups k))
 unfolding nodeLine lineStart
 node-length groups k =
     let label : List ℕ = 32 ∷ 91 ∷ 108 ∷ 97 ∷ 98 ∷ 101 ∷ 108 ∷ 61 ∷ [] in
@@ -59,7 +59,7 @@ most-nodes : sum (map nodeFrame (upTo 32)) ≡ 534
 unfolding sum upTo decimal digits
 most-nodes = refl
 
-most-labels : sum (map labelled (upTo 32)) ≡ 86
+most-labels : sum (map labelLength (upTo 32)) ≡ 86
 unfolding sum upTo decimal digits
 most-labels = refl
 
@@ -79,7 +79,7 @@ module _ (groups : Grouping) (joined : ℕ → ℕ → Bool) (d : Drawable (draw
   nodes-short : length (flatMap (nodeLine groups) (upTo count)) ≤ 620
   unfolding members
   nodes-short =
-      let own : ℕ → ℕ = λ k. sum (map labelled (members groups k)) in
+      let own : ℕ → ℕ = λ k. sum (map labelLength (members groups k)) in
       omega (
         arith,
         length-flatMap (nodeLine groups) (upTo count),
@@ -88,8 +88,8 @@ module _ (groups : Grouping) (joined : ℕ → ℕ → Bool) (d : Drawable (draw
         sum-add nodeFrame own (upTo count),
         sum-up nodeFrame 32 few,
         most-nodes,
-        classes-sum labelled (groupOf groups) (upTo (length groups)) count,
-        sum-up labelled 32 (d .few),
+        classes-sum labelLength (groupOf groups) (upTo (length groups)) count,
+        sum-up labelLength 32 (d .few),
         most-labels,
       )
 

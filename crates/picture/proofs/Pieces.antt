@@ -1,6 +1,6 @@
--- The lines of a text, written piece by piece, and how long they can be.
+-- The lines of a text, written piece by piece, and how long they are.
 -- Assumes nothing.
-use Prim.Native.Nat.{ℕ, _+_, _≤_, _<_}
+use Prim.Native.Nat.{ℕ, _+_, _≤_}
 use mathlib.Core.Path.{_≡_, _∙_}
 use mathlib.Core.List.{List, [], _∷_, _++_, append-assoc}
 use native.Mathlib.Omega.{arith}
@@ -8,17 +8,16 @@ use native.Mathlib.Numerals.{add-one}
 use lib.ListN.{length, set, take, length-append}
 use lib.Seq.{sets-eq}
 use Rattle.decimal.specs.Decimal.{decimal}
-use Rattle.decimal.proofs.Digits.{two-digits}
 use Rattle.decimal.proofs.Putting.{Puts, puts-then}
+use Rattle.sets.specs.Sets.{elements}
 use Rattle.plan.specs.Written.{written}
-use Rattle.plan.specs.Groups.{members}
 use Rattle.picture.specs.Picture.{edge}
-use Rattle.picture.specs.Text.{lineStart, labels, nodeLine, edgeLine}
-use Rattle.picture.proofs.Labels.{labels-short}
+use Rattle.picture.specs.Text.{lineStart, labels, edgeLine}
+use Rattle.picture.specs.Rows.{nodeOf, nodeRow}
 
-pub name-short : (k : ℕ) → k < 32 → length (lineStart k) ≤ 5
+pub name-length : (k : ℕ) → length (lineStart k) ≡ 3 + length (decimal k)
 unfolding lineStart
-name-short k l = omega (arith, two-digits k (omega arith))
+name-length k = omega arith
 
 pub edge-length : (a k : ℕ) → length (edgeLine (edge a k)) ≡ 10 + length (decimal a) + length (decimal k)
 unfolding edgeLine lineStart
@@ -30,25 +29,17 @@ edge-length a k =
       length-append (lineStart a) arrow,
     )
 
-pub edge-short : (a k : ℕ) → a < 32 → k < 32 → length (edgeLine (edge a k)) ≤ 14
-edge-short a k l h = omega (arith, edge-length a k, two-digits a (omega arith), two-digits k (omega arith))
-
-pub node-length : (numbers : List ℕ) (k : ℕ)
-    → length (nodeLine numbers k) ≡ 15 + length (decimal k) + length (labels 34 (members numbers k))
-unfolding nodeLine lineStart
-node-length numbers k =
+pub node-length : (set k : ℕ) → length (nodeRow set k) ≡ 15 + length (decimal k) + length (labels 34 (elements set))
+unfolding nodeOf lineStart
+node-length set k =
     let label : List ℕ = 32 ∷ 91 ∷ 108 ∷ 97 ∷ 98 ∷ 101 ∷ 108 ∷ 61 ∷ [] in
-    let machines = labels 34 (members numbers k) in
+    let machines = labels 34 (elements set) in
     omega (
       arith,
       length-append (lineStart k ++ label ++ machines) (34 ∷ 93 ∷ 59 ∷ 10 ∷ []),
       length-append (lineStart k ++ label) machines,
       length-append (lineStart k) label,
     )
-
-pub node-short : (numbers : List ℕ) (k : ℕ) → length numbers ≤ 32 → k < 32 → length (nodeLine numbers k) ≤ 512
-node-short numbers k l h =
-    omega (arith, node-length numbers k, two-digits k (omega arith), labels-short numbers k l)
 
 pub pair-written : (s : List ℕ) (at a k : ℕ) → at + 2 ≤ length s
     → set (set s at a) (at + 1) k ≡ written at (a ∷ k ∷ []) s
@@ -73,12 +64,10 @@ module _ (s : List ℕ) (at : ℕ) (room : at ≤ length s) where
       let front = puts-then s at _ _ room (puts-then s at _ _ room p q) r in
       puts-then s at _ _ room (rw (append-assoc (lineStart a) (32 ∷ 45 ∷ 62 ∷ 32 ∷ []) (103 ∷ decimal k)) at front) t
 
-pub node-put : (s numbers : List ℕ) (k : ℕ) {name label mid end : ℕ} {s1 s2 s3 out : List ℕ}
-    → Puts s 0 (lineStart k) name s1
-    → Puts s1 name (32 ∷ 91 ∷ 108 ∷ 97 ∷ 98 ∷ 101 ∷ 108 ∷ 61 ∷ []) label s2
-    → Puts s2 label (labels 34 (members numbers k)) mid s3 → Puts s3 mid (34 ∷ 93 ∷ 59 ∷ 10 ∷ []) end out
-    → Puts s 0 (nodeLine numbers k) end out
-unfolding nodeLine
-node-put s numbers k p q r t =
-    let room : 0 ≤ length s = omega arith in
-    puts-then s 0 _ _ room (puts-then s 0 _ _ room (puts-then s 0 _ _ room p q) r) t
+  pub node-put : (set k : ℕ) {name label mid end : ℕ} {s1 s2 s3 out : List ℕ} → Puts s at (lineStart k) name s1
+      → Puts s1 name (32 ∷ 91 ∷ 108 ∷ 97 ∷ 98 ∷ 101 ∷ 108 ∷ 61 ∷ []) label s2
+      → Puts s2 label (labels 34 (elements set)) mid s3 → Puts s3 mid (34 ∷ 93 ∷ 59 ∷ 10 ∷ []) end out
+      → Puts s at (nodeRow set k) end out
+  unfolding nodeOf
+  node-put set k p q r t =
+      puts-then s at _ _ room (puts-then s at _ _ room (puts-then s at _ _ room p q) r) t

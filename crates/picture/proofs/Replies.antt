@@ -51,7 +51,7 @@ same-equal [] (y ∷ ys) t = absurd (true-false t refl)
 same-equal (x ∷ xs) [] t = absurd (true-false t refl)
 same-equal (x ∷ xs) (y ∷ ys) t = ap₂ _∷_ (eqb-true x y (and-left _ _ t)) (same-equal xs ys (and-right (eqb x y) _ t))
 
-same-self : (xs : List ℕ) → sameBytes xs xs ≡ true
+pub same-self : (xs : List ℕ) → sameBytes xs xs ≡ true
 unfolding sameBytes
 same-self [] = refl
 same-self (x ∷ xs) = and-intro (eq-eqb x x refl) (same-self xs)

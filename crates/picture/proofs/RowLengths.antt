@@ -1,70 +1,56 @@
--- The lengths of a row's pieces, added up one after the other.
+-- The lengths of a group's rows, by how many members the set has and how many digits these have.
 -- Assumes nothing.
-use Prim.Native.Nat.{ℕ, _+_, _*_, _≤_, _<_}
-use mathlib.Core.Path.{_≡_, refl, sym, ap, _∙_}
-use mathlib.Core.List.{List, [], _∷_, map, map-append, flatMap}
-use mathlib.Core.Bool.{Bool, true, false}
+use Prim.Native.Nat.{ℕ, _+_, _*_, _≤_}
+use mathlib.Core.Path.{_≡_, refl, ap}
+use mathlib.Core.List.{List, map}
 use native.Mathlib.Omega.{arith}
-use native.Mathlib.Numerals.{add-one}
-use native.Mathlib.Nat.{le-antisymm, mul-suc}
+use native.Mathlib.Nat.{mul-comm, mul-le-mul}
 use lib.ListN.{length}
-use Rattle.common.specs.Lists.{upTo, filter, sum}
-use Rattle.common.proofs.Sums.{sum-append, length-flatMap, flatMap-map}
-use Rattle.decimal.specs.Decimal.{decimal}
-use Rattle.plan.specs.Groups.{members}
-use Rattle.plan.proofs.ModeDigits.{filter-next, filter-skip}
-use Rattle.picture.specs.Picture.{Edge, edge}
-use Rattle.picture.specs.Text.{labels, edgeLine}
-use Rattle.picture.specs.Rows.{joins, edgesFrom}
-use Rattle.picture.proofs.Labels.{isMember, labelled, labels-length}
-use Rattle.picture.proofs.Pieces.{edge-length}
+use Rattle.common.specs.Lists.{sum}
+use Rattle.common.proofs.Lists.{map-cong}
+use Rattle.common.proofs.Sums.{sum-add, sum-constant, length-flatMap, length-twos}
+use Rattle.sets.specs.Sets.{elements}
+use Rattle.picture.specs.Picture.{edge}
+use Rattle.picture.specs.Text.{edgeLine}
+use Rattle.picture.specs.Rows.{edgesOf, nodeRow, edgeRow, pairRow}
+use Rattle.picture.proofs.Labels.{labels-length}
+use Rattle.picture.proofs.Pieces.{edge-length, node-length}
+use Rattle.picture.proofs.SetSizes.{width}
 
-module _ (p : ℕ → Bool) (size : ℕ → ℕ) (most n : ℕ) where
-  -- the sizes of those below i that p holds for, none of them more than `most`
-  pub record SizeUpto (r i : ℕ) : Type 0 where
-    pub inside : i ≤ n
-    pub short : r ≤ most * i
-    pub adds : r ≡ sum (map size (filter p (upTo i)))
+-- something of the same length, and a number, for each member
+each-with : (c : ℕ) (is : List ℕ) → sum (map (λ i. c + width i) is) ≡ c * length is + sum (map width is)
+each-with c is =
+    omega (
+      arith,
+      sum-add (λ i. c) width is,
+      sum-constant (λ i. c) c is (λ i m. refl),
+      mul-comm c (length is),
+    )
 
-  pub size-none : SizeUpto 0 0
-  unfolding sum filter upTo
-  size-none = record { inside = omega arith; short = omega arith; adds = refl }
+pub lines-short : {w n : ℕ} → w ≤ 2 → n ≤ 64 → (10 + w) * n ≤ 768
+lines-short {w} {n} hw hn =
+    let h : 10 + w ≤ 12 = omega arith in
+    omega (arith, mul-le-mul h hn)
 
-  module _ {r i : ℕ} (u : SizeUpto r i) (l : i < n) where
-    pub size-other : p i ≡ false → SizeUpto r (i + 1)
-    size-other f =
-        rw (add-one i) (record {
-          inside = omega arith;
-          short = omega (arith, u .short, mul-suc most i);
-          adds = rw (filter-skip p i f) (u .adds);
-        })
+module _ (set : ℕ) {size digits : ℕ} (es : size ≡ length (elements set))
+    (ed : digits ≡ sum (map width (elements set))) where
+  pub node-adds : (k : ℕ) {w : ℕ} → w ≡ width k → 15 + w + size + digits ≡ length (nodeRow set k)
+  node-adds k ew =
+      omega (arith, node-length set k, labels-length 34 (elements set), each-with 1 (elements set))
 
-    pub size-more : {len : ℕ} → p i ≡ true → len ≡ size i → len ≤ most → SizeUpto (r + len) (i + 1)
-    unfolding sum
-    size-more t e few =
-        rw (add-one i) (record {
-          inside = omega arith;
-          short = omega (arith, u .short, mul-suc most i);
-          adds = rw (filter-next p i t, map-append, sum-append) (omega (arith, u .adds, e));
-        })
+  pub edges-add : (a : ℕ) {w : ℕ} → w ≡ width a → (10 + w) * size + digits ≡ length (edgeRow set a)
+  unfolding edgesOf
+  edges-add a ew =
+      let each = ap sum (map-cong (λ k. length (edgeLine (edge a k))) (λ k. (10 + width a) + width k) (elements set)
+      (λ k m. edge-length a k)) in
+      rw (ew, es, ed)
+      (omega (
+        arith,
+        length-flatMap (λ k. edgeLine (edge a k)) (elements set),
+        each,
+        each-with (10 + width a) (elements set),
+      ))
 
-  pub size-end : {r i : ℕ} → SizeUpto r i → n ≤ i → r ≡ sum (map size (filter p (upTo n)))
-  size-end {i = i} u h =
-      let e : i ≡ n = le-antisymm (u .inside) h in
-      u .adds ∙ ap (λ j. sum (map size (filter p (upTo j)))) e
-
-pub labels-add : (numbers : List ℕ) (k : ℕ)
-    → length (labels 34 (members numbers k)) ≡ sum (map labelled (filter (isMember numbers k) (upTo (length numbers))))
-unfolding members
-labels-add numbers k = labels-length 34 (members numbers k)
-
-pub row-adds : (sources : List ℕ) (a : ℕ) (piece : Edge → List ℕ) → length (flatMap piece (edgesFrom sources a))
-    ≡ sum (map (λ k. length (piece (edge a k))) (filter (joins sources a) (upTo (length sources))))
-unfolding edgesFrom
-row-adds sources a piece =
-    let targets = filter (joins sources a) (upTo (length sources)) in
-    ap length (flatMap-map piece (edge a) targets) ∙ length-flatMap (λ k. piece (edge a k)) targets
-
-pub edge-adds : (a k : ℕ) {x y : ℕ} → x ≡ length (decimal a) → y ≡ length (decimal k)
-    → 10 + x + y ≡ length (edgeLine (edge a k))
-edge-adds a k e f = omega (arith, edge-length a k)
+pub pairs-add : (set : ℕ) {size : ℕ} → size ≡ length (elements set) → (a : ℕ) → 2 * size ≡ length (pairRow set a)
+unfolding pairRow
+pairs-add set es a = omega (arith, length-twos (λ k. a) (λ k. k) (elements set))

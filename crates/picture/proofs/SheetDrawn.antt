@@ -1,21 +1,25 @@
 -- The groups of a sheet, as the code keeps them, show its picture.
 -- Assumes nothing.
 use Prim.Native.Nat.{ℕ, _≤_, _<_}
-use mathlib.Core.Path.{_≡_, refl, ap, _∙_}
+use mathlib.Core.Path.{_≡_, refl, sym, ap, ap₂, _∙_}
 use mathlib.Core.List.{List}
+use mathlib.Core.Bool.{true}
 use native.Mathlib.Omega.{arith}
-use lib.ListN.{length, take}
+use borrow.Author.Tests.{ltb-true, ltb-false}
+use lib.Dec.{ltb}
+use lib.ListN.{length, getD, take, List·getD-eq-default}
 use lib.Seq.{length-take-le, getD-take}
 use Rattle.common.specs.Bits.{bit}
 use Rattle.common.specs.Reply.{refused, andThen}
+use Rattle.common.proofs.Bools.{by-cases, true-false}
+use Rattle.sets.proofs.Laws.{bit-none}
 use Rattle.sheet.specs.declared.index.Sheet.{Sheet}
 use Rattle.sheet.specs.Model.{Model}
 use Rattle.sheet.specs.Index.{Indexes}
 use Rattle.sheet.specs.Parse.{parse}
 use Rattle.sheet.proofs.Indexed.{indexes-valid}
-use Rattle.plan.specs.declared.partition.Groups.{Groups}
 use Rattle.plan.specs.Groups.{Grouping, groupCount, groupsOf}
-use Rattle.plan.specs.Partition.{Partitioned}
+use Rattle.plan.specs.Partition.{NeededBy}
 use Rattle.plan.proofs.GroupLoops.{few-groups}
 use Rattle.plan.proofs.PlanAnswers.{own-numbers}
 use Rattle.plan.proofs.Planning.{length-groupsOf}
@@ -23,7 +27,7 @@ use Rattle.plan.proofs.SheetNumbers.{numbers-small}
 use Rattle.picture.specs.Picture.{Edge, edgesBy, namedBy, pictureOf}
 use Rattle.picture.specs.Text.{textOf}
 use Rattle.picture.specs.Graph.{fitted, graphReply}
-use Rattle.picture.specs.Rows.{joins, Shows, shown}
+use Rattle.picture.specs.Shown.{Shows, shown}
 use Rattle.picture.proofs.Edges.{edgesBy-cong}
 
 module _ {s : List ℕ} {x : Sheet} {m : Model} (i : Indexes s x m) where
@@ -31,38 +35,52 @@ module _ {s : List ℕ} {x : Sheet} {m : Model} (i : Indexes s x m) where
   unfolding graphReply andThen
   drawn-reply room = rw (i .passes, i .model)
 
-  module _ {numbers : List ℕ} {r : Groups} (own : numbers ≡ groupsOf m) (g : Partitioned m numbers r)
-      (long : length (r .named) ≡ 32) where
+  module _ {numbers targets : List ℕ} {n : ℕ} (own : numbers ≡ groupsOf m) (by : NeededBy m (groupsOf m) targets)
+      (long : length targets ≡ 32) (count : n ≡ groupCount numbers) where
     few : groupCount numbers ≤ 32
     few = few-groups (numbers-small i (own-numbers i own)) refl
 
-    pub count-fits : r .count ≤ length (r .named)
-    count-fits = omega (arith, g .count, few, long)
+    pub count-fits : n ≤ length targets
+    count-fits = omega (arith, few)
 
-    sources-length : length (take (r .count) (r .named)) ≡ groupCount numbers
-    sources-length = length-take-le (r .count) (r .named) count-fits ∙ g .count
+    targets-length : length (take n targets) ≡ groupCount numbers
+    targets-length = length-take-le n targets count-fits ∙ count
 
-    pub drawn-shows : Shows numbers (take (r .count) (r .named))
+    same-target : (a : ℕ) → a < groupCount numbers → getD (take n targets) a 0 ≡ getD targets a 0
+    same-target a h = getD-take n targets a 0 (omega arith)
+
+    target-inside : (a k : ℕ) → bit (getD (take n targets) a 0) k ≡ true → k < length (take n targets)
+    target-inside a k t =
+        by-cases (ltb a (groupCount numbers))
+        (λ y.
+        let e = same-target a (ltb-true a (groupCount numbers) y) in
+        let l : k < groupCount (groupsOf m) = by .inside a k (ap (λ s. bit s k) (sym e) ∙ t) in
+        omega (arith, targets-length, ap groupCount own))
+        (λ f.
+        let past = List·getD-eq-default (take n targets) 0 {n = a}
+        (omega (arith, targets-length, ltb-false a (groupCount numbers) f)) in
+        absurd (true-false t (ap (λ s. bit s k) past ∙ bit-none k)))
+
+    pub drawn-shows : Shows numbers (take n targets)
     drawn-shows =
         record {
           few-machines = omega (arith, ap length own, length-groupsOf m, indexes-valid i .few-machines);
-          few-groups = omega (arith, sources-length, few);
-          all-groups = sources-length;
+          few-groups = omega (arith, targets-length, few);
+          all-groups = targets-length;
+          inside = target-inside;
         }
 
     joined : (a k : ℕ) → a < groupCount numbers → k < groupCount numbers
-        → joins (take (r .count) (r .named)) a k ≡ namedBy m numbers a k
-    unfolding joins namedBy
-    joined a k h l =
-        ap (λ set. bit set a) (getD-take (r .count) (r .named) k 0 (omega (arith, g .count)))
-        ∙ g .named k a (omega (arith, few))
+        → bit (getD (take n targets) a 0) k ≡ namedBy m (groupsOf m) a k
+    unfolding namedBy
+    joined a k h l = ap (λ s. bit s k) (same-target a h) ∙ by .bits a k
 
-    pub drawn-picture : shown numbers (take (r .count) (r .named)) ≡ pictureOf m
+    pub drawn-picture : shown numbers (take n targets) ≡ pictureOf m
     unfolding shown pictureOf
     drawn-picture =
-        let edges = ap (edgesBy (joins (take (r .count) (r .named)))) sources-length ∙ edgesBy-cong _ _ _ joined in
-        ap (λ (es : List Edge). record { groups = numbers; edges = es }) edges
-        ∙ ap (λ (g : Grouping). record { groups = g; edges = edgesBy (namedBy m g) (groupCount g) }) own
+        let edges = ap (edgesBy (λ a k. bit (getD (take n targets) a 0) k)) targets-length
+        ∙ edgesBy-cong _ _ _ joined ∙ ap (λ (g : Grouping). edgesBy (namedBy m (groupsOf m)) (groupCount g)) own in
+        ap₂ (λ (g : Grouping) (es : List Edge). record { groups = g; edges = es }) own edges
 
 pub undrawn-reply : (s : List ℕ) (room : ℕ) {n p : ℕ} → parse s ≡ refused n p → graphReply s room ≡ refused n p
 unfolding graphReply andThen

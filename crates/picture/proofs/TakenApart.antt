@@ -95,7 +95,7 @@ module _ (p : Picture) where
         ∙ edgesBy-cong (after .joined) rel count joined-back
         ∙ sym from
 
-    picture-back : takenApart (textOf p) ≡ p
+    pub picture-back : takenApart (textOf p) ≡ p
     unfolding takenApart
     picture-back = ap₂ (λ groups edges. record { groups = groups; edges = edges }) groups-back edges-back
 

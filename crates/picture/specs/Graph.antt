@@ -24,12 +24,6 @@ sameBytes [] (y ∷ ys) = false
 sameBytes (x ∷ xs) [] = false
 sameBytes (x ∷ xs) (y ∷ ys) = eqb x y && sameBytes xs ys
 
--- the text begins with the bytes
-unfoldable pub startsWith : List ℕ → List ℕ → Bool
-startsWith [] text = true
-startsWith (x ∷ xs) [] = false
-startsWith (x ∷ xs) (y ∷ ys) = eqb x y && startsWith xs ys
-
 -- the text is exactly that of a picture that a sheet can have
 unfoldable pub isText : Picture → List ℕ → Bool
 isText p text = drawable p && sameBytes (textOf p) text

@@ -1,8 +1,10 @@
 pub mod Drawn
 pub mod Examples
 pub mod Graph
+pub mod Matched
 pub mod Picture
 pub mod Reading
 pub mod Rows
-pub mod Taken
+pub mod Shown
 pub mod Text
+pub mod Turns

@@ -1,57 +1,57 @@
--- How the code keeps a picture, and the parts of it that are written and compared one after the other.
-use Prim.Native.Nat.{ℕ, _+_, _*_, _-_, _≤_}
-use mathlib.Core.Path.{_≡_}
-use mathlib.Core.List.{List, [], _∷_, map, flatMap}
-use mathlib.Core.Bool.{Bool, true, cond}
-use lib.ListN.{length, getD, take}
-use lib.Dec.{ltb}
-use Rattle.common.specs.Bits.{bit}
-use Rattle.common.specs.Lists.{upTo, all, filter}
-use Rattle.plan.specs.Groups.{groupCount}
-use Rattle.picture.specs.Picture.{Edge, edge, Picture, edgesBy}
-use Rattle.picture.specs.Text.{nodeLine, edgeLine}
+-- The parts of a picture's text and bytes that are written one after the other: for each group a row, by a set.
+use Prim.Native.Nat.{ℕ}
+use mathlib.Core.List.{List, [], _∷_, _++_, flatMap}
+use lib.ListN.{length, getD}
+use Rattle.common.specs.Lists.{upTo}
+use Rattle.sets.specs.Sets.{elements}
+use Rattle.picture.specs.Picture.{edge}
+use Rattle.picture.specs.Text.{firstLine, lastLine, lineStart, labels, edgeLine}
 
--- for each group the set of the groups that it needs
-module _ (sources : List ℕ) where
-  unfoldable pub joins : ℕ → ℕ → Bool
-  joins a k = bit (getD sources k 0) a
+-- " [label="
+abbrev pub labelStart : List ℕ
+labelStart = 32 ∷ 91 ∷ 108 ∷ 97 ∷ 98 ∷ 101 ∷ 108 ∷ 61 ∷ []
 
-  unfoldable pub edgesFrom : ℕ → List Edge
-  edgesFrom a = map (edge a) (filter (joins a) (upTo (length sources)))
+-- a quote, "];" and a line feed
+abbrev pub labelEnd : List ℕ
+labelEnd = 34 ∷ 93 ∷ 59 ∷ 10 ∷ []
 
-  -- the lines of the edges from a group
-  unfoldable pub edgeRow : ℕ → List ℕ
-  edgeRow a = flatMap edgeLine (edgesFrom a)
+-- " -> g"
+abbrev pub arrow : List ℕ
+arrow = 32 ∷ 45 ∷ 62 ∷ 32 ∷ 103 ∷ []
 
-  -- the same edges in bytes
-  unfoldable pub pairRow : ℕ → List ℕ
-  pairRow a = flatMap (λ e. e .source ∷ e .target ∷ []) (edgesFrom a)
+-- ";" and a line feed
+abbrev pub edgeEnd : List ℕ
+edgeEnd = 59 ∷ 10 ∷ []
 
--- and a group's number for each machine
-module _ (numbers sources : List ℕ) where
-  unfoldable pub shown : Picture
-  shown = record { groups = numbers; edges = edgesBy (joins sources) (length sources) }
+-- the node of group k with some machines
+unfoldable pub nodeOf : ℕ → List ℕ → List ℕ
+nodeOf k is = lineStart k ++ labelStart ++ labels 34 is ++ labelEnd
 
-  -- at most 32 machines and groups
-  pub record Shows : Type 0 where
-    pub few-machines : length numbers ≤ 32
-    pub few-groups : length sources ≤ 32
-    pub all-groups : length sources ≡ groupCount numbers
+-- the edges from group a to some groups
+unfoldable pub edgesOf : ℕ → List ℕ → List ℕ
+edgesOf a ks = flatMap (λ k. edgeLine (edge a k)) ks
 
-  -- row by row: the nodes, then the lines of the edges from each group, then those edges in bytes
-  unfoldable pub rowOf : ℕ → List ℕ
-  rowOf j =
-      let count = length sources in
-      let edges = cond (ltb j (2 * count)) (edgeRow sources (j - count)) (pairRow sources (j - 2 * count)) in
-      cond (ltb j count) (nodeLine numbers j) edges
+-- the line of a node, by the set of its machines
+abbrev pub nodeRow : ℕ → ℕ → List ℕ
+nodeRow machines k = nodeOf k (elements machines)
 
-  -- n rows, from one on
-  unfoldable pub rowsFrom : ℕ → ℕ → List ℕ
-  rowsFrom first n = flatMap (λ j. rowOf (first + j)) (upTo n)
+-- the lines of the edges from a group, by the set of their targets
+abbrev pub edgeRow : ℕ → ℕ → List ℕ
+edgeRow targets a = edgesOf a (elements targets)
 
--- What the code keeps tells the picture of a text: a number over 32 is kept as 32, and there can be sources of more
--- groups than the picture has.
-pub record Tells (p : Picture) (numbers sources : List ℕ) : Type 0 where
-  pub machines : length (p .groups) ≡ length numbers
-  pub below : all (λ k. ltb k (length numbers)) (p .groups) ≡ all (λ k. ltb k (length numbers)) numbers
-  pub picture : all (λ k. ltb k (length numbers)) numbers ≡ true → p ≡ shown numbers (take (groupCount numbers) sources)
+-- the same edges in bytes
+unfoldable pub pairRow : ℕ → ℕ → List ℕ
+pairRow targets a = flatMap (λ k. a ∷ k ∷ []) (elements targets)
+
+module _ (row : ℕ → ℕ → List ℕ) (sets : List ℕ) where
+  -- the rows of the first groups
+  unfoldable pub rowsUpto : ℕ → List ℕ
+  rowsUpto n = flatMap (λ a. row (getD sets a 0) a) (upTo n)
+
+  -- the rows of all groups, with a set for each
+  abbrev pub rowsOf : List ℕ
+  rowsOf = rowsUpto (length sets)
+
+-- the text of a picture, by the machines of each group and the targets of each
+unfoldable pub textRows : List ℕ → List ℕ → List ℕ
+textRows members targets = firstLine ++ rowsOf nodeRow members ++ rowsOf edgeRow targets ++ lastLine

@@ -2,7 +2,7 @@
 pub mod graph;
 pub mod lengths;
 pub mod lines;
+pub mod matching;
 pub mod promises;
 pub mod rows;
-pub mod taking;
 pub mod turns;

@@ -1,127 +1,102 @@
-// A picture row by row: how long the rows are, writing them, and comparing them with a text.
-use crate::lengths::row_length;
-use crate::lines::put;
+// The rows of a picture, one for each group: how long they are together, and writing them.
+use crate::lengths::edges_length;
+use crate::lengths::node_length;
+use crate::lengths::pairs_length;
 use crate::lines::put_edges;
 use crate::lines::put_node;
 use crate::lines::put_pairs;
 ghost use mathlib.Core.Path.{_≡_};
-ghost use mathlib.Core.Bool.{_&&_};
-ghost use Prim.Native.Nat.{_+_, _*_, _≤_, _<_};
-ghost use lib.ListN.{length, drop};
+ghost use Prim.Native.Nat.{_+_, _≤_};
+ghost use lib.ListN.{length};
 ghost use Rattle.plan.specs.Written.{written};
-ghost use Rattle.picture.specs.Text.{textOf};
-ghost use Rattle.picture.specs.Graph.{sameBytes, startsWith};
-ghost use Rattle.picture.specs.Rows.{Shows, shown, rowOf, rowsFrom};
+ghost use Rattle.picture.specs.Rows.{nodeRow, edgeRow, pairRow, rowsOf};
 
-// Some rows: the first, and how many.
-pub struct Span {
-    pub first: usize,
-    pub n: usize,
-}
-
-// Writes a row, and gives its length.
-fn put_row(row: &mut [u8], numbers: &[u8], sources: &[u64], j: usize) -> usize
-    requires { ⌜ (512 ≤ length (now row)) × Shows (now numbers) (now sources) × (j < 3 * length (now sources)) ⌝ }
-    ensures end { λ r. ⌜ r ≡ length (rowOf (now (numbers .entry)) (now (sources .entry)) j) ⌝ }
-    ensures short { λ r. ⌜ r ≤ 512 ⌝ }
-    ensures written { λ _. ⌜ now (row .exit)
-        ≡ written 0 (rowOf (now (numbers .entry)) (now (sources .entry)) j) (now (row .entry)) ⌝ }
+// The length of the nodes, by the machines of each.
+pub fn nodes_length(members: &[u64]) -> usize
+    requires { ⌜ length (now members) ≤ 32 ⌝ }
+    ensures short { λ r. ⌜ r ≤ 32768 ⌝ }
+    ensures length { λ r. ⌜ r ≡ length (rowsOf nodeRow (now (members .entry))) ⌝ }
 {
-    let count = sources.len();
-    if j < count {
-        return put_node(row, numbers, j);
-    }
-    if j < 2 * count {
-        return put_edges(row, sources, j - count);
-    }
-    put_pairs(row, sources, j - 2 * count)
-}
-
-// The length of some rows.
-pub fn rows_length(numbers: &[u8], sources: &[u64], span: Span) -> usize
-    requires { ⌜ Shows (now numbers) (now sources) × (span .first + span .n ≤ 3 * length (now sources)) ⌝ }
-    ensures short { λ r. ⌜ r ≤ 49152 ⌝ }
-    ensures length { λ r. ⌜ r
-        ≡ length (rowsFrom (now (numbers .entry)) (now (sources .entry)) (span .first) (span .n)) ⌝ }
-{
-    let first = span.first;
-    let n = span.n;
     let mut r: usize = 0;
-    let mut j: usize = 0;
-    while j < n {
-        r += row_length(numbers, sources, first + j);
-        j += 1;
+    let mut k: usize = 0;
+    while k < members.len() {
+        r += node_length(members[k], k);
+        k += 1;
     }
     r
 }
 
-// Writes some rows at a place, and gives the place behind them.
-pub fn put_rows(out: &mut [u8], at: usize, numbers: &[u8], sources: &[u64], span: Span) -> usize
-    requires { ⌜ Shows (now numbers) (now sources) × (span .first + span .n ≤ 3 * length (now sources))
-        × (at + length (rowsFrom (now numbers) (now sources) (span .first) (span .n)) ≤ length (now out)) ⌝ }
-    ensures end { λ r. ⌜ r
-        ≡ at + length (rowsFrom (now (numbers .entry)) (now (sources .entry)) (span .first) (span .n)) ⌝ }
-    ensures written { λ _. ⌜ now (out .exit)
-        ≡ written at (rowsFrom (now (numbers .entry)) (now (sources .entry)) (span .first) (span .n))
-        (now (out .entry)) ⌝ }
+// The length of the lines of the edges, by the targets of each group.
+pub fn all_edges_length(targets: &[u64]) -> usize
+    requires { ⌜ length (now targets) ≤ 32 ⌝ }
+    ensures short { λ r. ⌜ r ≤ 32768 ⌝ }
+    ensures length { λ r. ⌜ r ≡ length (rowsOf edgeRow (now (targets .entry))) ⌝ }
 {
-    let mut row = [0u8; 512];
-    let first = span.first;
-    let n = span.n;
+    let mut r: usize = 0;
+    let mut a: usize = 0;
+    while a < targets.len() {
+        r += edges_length(targets[a], a);
+        a += 1;
+    }
+    r
+}
+
+// The length of the edges in bytes.
+pub fn all_pairs_length(targets: &[u64]) -> usize
+    requires { ⌜ length (now targets) ≤ 32 ⌝ }
+    ensures short { λ r. ⌜ r ≤ 32768 ⌝ }
+    ensures length { λ r. ⌜ r ≡ length (rowsOf pairRow (now (targets .entry))) ⌝ }
+{
+    let mut r: usize = 0;
+    let mut a: usize = 0;
+    while a < targets.len() {
+        r += pairs_length(targets[a]);
+        a += 1;
+    }
+    r
+}
+
+// Writes the nodes at a place, and gives the place behind them.
+pub fn put_nodes(out: &mut [u8], at: usize, members: &[u64]) -> usize
+    requires { ⌜ (length (now members) ≤ 32) × (at + length (rowsOf nodeRow (now members)) ≤ length (now out)) ⌝ }
+    ensures end { λ r. ⌜ r ≡ at + length (rowsOf nodeRow (now (members .entry))) ⌝ }
+    ensures written { λ _. ⌜ now (out .exit) ≡ written at (rowsOf nodeRow (now (members .entry))) (now (out .entry)) ⌝ }
+{
     let mut end = at;
-    let mut j: usize = 0;
-    while j < n {
-        let len = put_row(&mut row[..], numbers, sources, first + j);
-        end = put(out, end, &row[..len]);
-        j += 1;
+    let mut k: usize = 0;
+    while k < members.len() {
+        end = put_node(out, end, members[k], k);
+        k += 1;
     }
     end
 }
 
-// Both are true.
-fn both(a: bool, b: bool) -> bool
-    ensures { λ r. ⌜ r ≡ (a && b) ⌝ }
+// Writes the lines of the edges.
+pub fn put_all_edges(out: &mut [u8], at: usize, targets: &[u64]) -> usize
+    requires { ⌜ (length (now targets) ≤ 32) × (at + length (rowsOf edgeRow (now targets)) ≤ length (now out)) ⌝ }
+    ensures end { λ r. ⌜ r ≡ at + length (rowsOf edgeRow (now (targets .entry))) ⌝ }
+    ensures written { λ _. ⌜ now (out .exit) ≡ written at (rowsOf edgeRow (now (targets .entry))) (now (out .entry)) ⌝ }
 {
-    a && b
+    let mut end = at;
+    let mut a: usize = 0;
+    while a < targets.len() {
+        end = put_edges(out, end, targets[a], a);
+        a += 1;
+    }
+    end
 }
 
-// The bytes stand at a place of a text. They are compared without a way out, so that many go at once.
-fn stands(text: &[u8], at: usize, bytes: &[u8]) -> bool
-    requires { ⌜ at ≤ length (now text) ⌝ }
-    ensures { λ r. ⌜ r ≡ startsWith (now (bytes .entry)) (drop at (now (text .entry))) ⌝ }
+// Writes the edges in bytes.
+pub fn put_all_pairs(out: &mut [u8], at: usize, targets: &[u64]) -> usize
+    requires { ⌜ (length (now targets) ≤ 32) × (at + length (rowsOf pairRow (now targets)) ≤ length (now out)) ⌝ }
+    ensures end { λ r. ⌜ r ≡ at + length (rowsOf pairRow (now (targets .entry))) ⌝ }
+    ensures written { λ _. ⌜ now (out .exit) ≡ written at (rowsOf pairRow (now (targets .entry))) (now (out .entry)) ⌝ }
 {
-    if text.len() - at < bytes.len() {
-        return false;
+    let mut end = at;
+    let mut a: usize = 0;
+    while a < targets.len() {
+        end = put_pairs(out, end, targets[a], a);
+        a += 1;
     }
-    let mut same = true;
-    let mut i: usize = 0;
-    while i < bytes.len() {
-        same = both(same, text[at + i] == bytes[i]);
-        i += 1;
-    }
-    same
-}
-
-// The text is that of the picture.
-pub fn same_text(text: &[u8], numbers: &[u8], sources: &[u64]) -> bool
-    requires { ⌜ Shows (now numbers) (now sources) ⌝ }
-    ensures { λ r. ⌜ r
-        ≡ sameBytes (textOf (shown (now (numbers .entry)) (now (sources .entry)))) (now (text .entry)) ⌝ }
-{
-    if !stands(text, 0, b"digraph groups {\n") {
-        return false;
-    }
-    let mut row = [0u8; 512];
-    let count = sources.len();
-    let mut at: usize = 17;
-    let mut j: usize = 0;
-    while j < 2 * count {
-        let len = put_row(&mut row[..], numbers, sources, j);
-        if !stands(text, at, &row[..len]) {
-            return false;
-        }
-        at += len;
-        j += 1;
-    }
-    stands(text, at, b"}\n") && at + 2 == text.len()
+    end
 }

@@ -1,76 +1,61 @@
 // Whether the groups of a picture have their numbers in turn.
+use plan::partition::members;
 use sheet::record::wide;
 ghost use mathlib.Core.Path.{_≡_};
-ghost use mathlib.Core.Bool.{_&&_};
-ghost use Prim.Native.Nat.{_≤_, _<_};
+ghost use mathlib.Core.Bool.{true, not, _&&_};
+ghost use Prim.Native.Nat.{ℕ, _<_};
 ghost use lib.ListN.{length, getD};
-ghost use lib.Dec.{eqb, ltb};
+ghost use lib.Dec.{eqb};
 ghost use Rattle.common.specs.Bits.{bit};
-ghost use Rattle.common.specs.Lists.{upTo, all, find};
-ghost use Rattle.sets.specs.Sets.{both};
-ghost use Rattle.picture.specs.Reading.{ready, inTurn};
-ghost use Rattle.picture.specs.Rows.{Shows, shown};
+ghost use Rattle.common.specs.Lists.{upTo, all};
+ghost use Rattle.sets.specs.Sets.{least};
+ghost use Rattle.search.specs.Search.{Union};
+ghost use Rattle.picture.specs.Reading.{inTurn};
+ghost use Rattle.picture.specs.Shown.{Shows, shown};
 
-// All numbers are below n.
-pub fn all_below(numbers: &[u8], n: usize) -> bool
-    ensures { λ r. ⌜ r ≡ all (λ k. ltb k n) (now (numbers .entry)) ⌝ }
+// The machines of some groups, by the machines of each.
+fn machines_of(members: &[u64], groups: u64) -> u64
+    requires { ⌜ ((g : ℕ) → bit groups g ≡ true → g < length (now members)) ⌝ }
+    ensures { λ r. ⌜ Union (now (members .entry)) groups r ⌝ }
 {
-    let mut i: usize = 0;
-    while i < numbers.len() {
-        if n <= wide(numbers[i]) {
+    let mut rest = groups;
+    let mut r: u64 = 0;
+    while rest != 0 {
+        let g = sets::lowest(rest);
+        r = sets::join(r, members[g]);
+        rest = sets::rest(rest);
+    }
+    r
+}
+
+// Number k is that of the first of the machines that are ready for it.
+fn in_turn(numbers: &[u8], ready: u64, k: usize) -> bool
+    requires { ⌜ ((i : ℕ) → bit ready i ≡ true → i < length (now numbers)) ⌝ }
+    ensures { λ r. ⌜ r ≡ (not (eqb ready 0) && eqb (getD (now (numbers .entry)) (least ready) 0) k) ⌝ }
+{
+    ready != 0 && wide(numbers[sets::lowest(ready)]) == k
+}
+
+// Each number is in its turn: going down from the last, with the machines of later groups, and those that wait for one.
+pub fn all_in_turn(numbers: &[u8], targets: &[u64]) -> bool
+    requires { ⌜ Shows (now numbers) (now targets) ⌝ }
+    ensures { λ r. ⌜ r ≡ all (inTurn (shown (now (numbers .entry)) (now (targets .entry))))
+        (upTo (length (now (targets .entry)))) ⌝ }
+{
+    let machines = members(numbers);
+    let mut waiting: u64 = 0;
+    let mut later: u64 = 0;
+    let mut held: u64 = 0;
+    let mut k = targets.len();
+    while 0 < k {
+        k -= 1;
+        let new = sets::minus(targets[k], waiting);
+        waiting = sets::join(waiting, targets[k]);
+        later = sets::join(later, machines[k]);
+        held = sets::join(held, machines_of(&machines, new));
+        if !in_turn(numbers, sets::minus(later, held), k) {
             return false;
         }
-        i += 1;
-    }
-    true
-}
-
-// Group g is in a set of groups, and needs none of them.
-fn ready_in(sources: &[u64], set: u64, g: usize) -> bool
-    requires { ⌜ (g < length (now sources)) × (length (now sources) ≤ 32) ⌝ }
-    ensures { λ r. ⌜ r ≡ (bit set g && eqb (both (getD (now (sources .entry)) g 0) set) 0) ⌝ }
-{
-    sets::has(set, g) && sets::meet(sources[g], set) == 0
-}
-
-// The first machine that is ready for number k, or how many machines there are.
-fn first_ready(numbers: &[u8], sources: &[u64], k: usize) -> usize
-    requires { ⌜ Shows (now numbers) (now sources) × (k < length (now sources)) ⌝ }
-    ensures { λ r. ⌜ r ≡ find (ready (shown (now (numbers .entry)) (now (sources .entry))) k)
-        (upTo (length (now (numbers .entry)))) (length (now (numbers .entry))) ⌝ }
-{
-    let unnumbered = sets::minus(sets::first(sources.len()), sets::first(k));
-    let mut i: usize = 0;
-    while i < numbers.len() {
-        if ready_in(sources, unnumbered, wide(numbers[i])) {
-            return i;
-        }
-        i += 1;
-    }
-    numbers.len()
-}
-
-// Number k is that of the first machine that is ready for it.
-fn in_turn(numbers: &[u8], sources: &[u64], k: usize) -> bool
-    requires { ⌜ Shows (now numbers) (now sources) × (k < length (now sources)) ⌝ }
-    ensures { λ r. ⌜ r ≡ inTurn (shown (now (numbers .entry)) (now (sources .entry))) k ⌝ }
-{
-    let i = first_ready(numbers, sources, k);
-    i < numbers.len() && wide(numbers[i]) == k
-}
-
-// Each number is in its turn.
-pub fn all_in_turn(numbers: &[u8], sources: &[u64]) -> bool
-    requires { ⌜ Shows (now numbers) (now sources) ⌝ }
-    ensures { λ r. ⌜ r ≡ all (inTurn (shown (now (numbers .entry)) (now (sources .entry))))
-        (upTo (length (now (sources .entry)))) ⌝ }
-{
-    let mut k: usize = 0;
-    while k < sources.len() {
-        if !in_turn(numbers, sources, k) {
-            return false;
-        }
-        k += 1;
     }
     true
 }

@@ -82,6 +82,8 @@ pub mod TableMade
 pub mod TableStarts
 pub mod TableWrites
 pub mod Tables
+pub mod TargetLoops
+pub mod TargetsNamed
 pub mod Together
 pub mod TurnsLent
 pub mod Usable

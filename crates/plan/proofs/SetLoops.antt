@@ -1,20 +1,19 @@
 -- The loops that build sets of machines: those that reach one another, those outside a group; and the next group ready.
 -- Assumes nothing.
-use Prim.Native.Nat.{ℕ, _+_, _^_, _≤_, _<_}
+use Prim.Native.Nat.{ℕ, _^_, _<_}
 use mathlib.Core.Path.{_≡_, sym, _∙_}
 use mathlib.Core.List.{List}
 use mathlib.Core.Bool.{Bool, true, false, _&&_, _||_, and-true, and-false, or-false}
 use native.Mathlib.Omega.{arith}
-use borrow.Author.Count.{below-none, below-more}
-use borrow.Author.Tests.{eqb-true, lt-ltb, le-ltb}
+use borrow.Author.Tests.{eqb-true, eq-eqb, ne-eqb, lt-ltb, le-ltb, ltb-true}
 use lib.Dec.{eqb}
 use lib.ListN.{getD}
 use Rattle.common.specs.Bits.{bit}
-use Rattle.common.proofs.Bools.{by-cases}
+use Rattle.common.proofs.Bools.{by-cases, true-false, true-of-not-false, false-of-not-true}
 use Rattle.common.proofs.Search.{find-upTo-is, find-upTo-none}
-use Rattle.sets.specs.Sets.{alone, less, least}
-use Rattle.sets.proofs.Laws.{bit-none, bit-alone, bit-less}
-use Rattle.sets.proofs.Members.{least-member, taken-fits}
+use Rattle.sets.specs.Sets.{alone, below, less, least}
+use Rattle.sets.proofs.Laws.{bit-none, bit-alone, bit-first, bit-less, less-from, less-not, less-intro}
+use Rattle.sets.proofs.Members.{least-before, least-member, taken-fits}
 use Rattle.search.specs.Search.{Union}
 use Rattle.plan.specs.MachineSets.{Mutual, Outside, readyBy, nextGroup}
 
@@ -57,28 +56,66 @@ pub outside-less : (next : List ℕ) (group : ℕ) {far r : ℕ} → Union next 
     → Outside next group r
 outside-less next group u e = record { bits = λ j. rw (e, bit-less, u .bits j) }
 
--- `next_group`: none of the machines before i is ready
+-- `next_group`: of the n machines only those of `rest` can be ready
 
-pub record Unready (outside : List ℕ) (numbered i : ℕ) : Type 0 where
-  pub each : (j : ℕ) → j < i → readyBy (getD outside j 0) numbered j ≡ false
+pub record Unready (outside : List ℕ) (numbered n rest : ℕ) : Type 0 where
+  pub fits : rest < 2 ^ 64
+  pub left : (j : ℕ) → bit rest j ≡ true → (j < n) × (bit numbered j ≡ false)
+  pub each : (j : ℕ) → j < n → bit rest j ≡ false → readyBy (getD outside j 0) numbered j ≡ false
 
-module _ {outside : List ℕ} {numbered : ℕ} where
-  pub unready-none : Unready outside numbered 0
-  unready-none = record { each = below-none _ }
+module _ {outside : List ℕ} {numbered n : ℕ} where
+  pub unready-none : {all rest : ℕ} → all ≡ below n → rest ≡ less all numbered → rest < 2 ^ 64
+      → Unready outside numbered n rest
+  unfolding readyBy
+  unready-none {all} {rest} ea er h =
+      record {
+        fits = h;
+        left = λ j t.
+            let u : bit (less all numbered) j ≡ true = rw (← er) t in
+            (ltb-true j n (sym (bit-first n j) ∙ rw ea at (less-from all numbered j u)), less-not all numbered j u);
+        each = λ j l f.
+            let there : bit all j ≡ true = rw ea (bit-first n j ∙ lt-ltb j n l) in
+            let given : bit numbered j ≡ true = true-of-not-false (λ v.
+            true-false (less-intro all numbered j there v) (rw (← er) f)) in
+            rw given;
+      }
 
-  module _ {i : ℕ} (u : Unready outside numbered i) where
-    pub unready-next : {b : Bool} → b ≡ readyBy (getD outside i 0) numbered i → b ≡ false
-        → Unready outside numbered (i + 1)
-    unready-next e f = record { each = below-more _ i (u .each) (sym e ∙ f) }
+  module _ {rest i s : ℕ} (u : Unready outside numbered n rest) (some : rest ≡ 0 → ⊥) (e : i ≡ least rest)
+      (es : s ≡ less (getD outside i 0) numbered) where
+    first-left : bit rest i ≡ true
+    first-left = rw e (least-member (u .fits) some)
 
-    pub unready-found : {b : Bool} (groups : List ℕ) (n : ℕ) → i < n → b ≡ readyBy (getD outside i 0) numbered i
-        → b ≡ true → getD groups i 0 ≡ nextGroup groups outside numbered n
-    unfolding nextGroup
-    unready-found groups n h e t =
-        rw (find-upTo-is (λ j. readyBy (getD outside j 0) numbered j) n i h (sym e ∙ t) (u .each), lt-ltb i n h)
+    pub unready-next : {t : ℕ} → (s ≡ 0 → ⊥) → t ≡ less rest (alone i) → Unready outside numbered n t
+    unfolding readyBy
+    unready-next {t} waits d =
+        record {
+          fits = taken-fits (u .fits) some e d;
+          left = λ j y. u .left j (less-from rest (alone i) j (rw d at y));
+          each = λ j l f.
+              by-cases (eqb i j)
+              (λ y.
+              let q : i ≡ j = eqb-true i j y in
+              rw (← q, ← es, ne-eqb s 0 waits, and-false))
+              (λ no.
+              u .each j l (false-of-not-true (λ y.
+              true-false (less-intro rest (alone i) j y (bit-alone i j ∙ no)) (rw (← d) f))));
+        }
 
-    pub unready-end : (groups : List ℕ) (n : ℕ) → n ≤ i → 0 ≡ nextGroup groups outside numbered n
-    unfolding nextGroup
-    unready-end groups n h =
-        let none : (j : ℕ) → j < n → readyBy (getD outside j 0) numbered j ≡ false = λ j l. u .each j (omega arith) in
-        rw (find-upTo-none (λ j. readyBy (getD outside j 0) numbered j) n none, le-ltb n n (omega arith))
+    pub unready-found : (groups : List ℕ) → s ≡ 0 → getD groups i 0 ≡ nextGroup groups outside numbered n
+    unfolding nextGroup readyBy
+    unready-found groups z =
+        let (h, none) = u .left i first-left in
+        let ready : readyBy (getD outside i 0) numbered i ≡ true = rw (none, ← es, eq-eqb s 0 z) in
+        rw (
+          find-upTo-is (λ j. readyBy (getD outside j 0) numbered j) n i h ready
+              (λ j l. u .each j (omega arith) (least-before rest j (omega arith))),
+          lt-ltb i n h,
+        )
+
+  pub unready-end : {rest : ℕ} (groups : List ℕ) → Unready outside numbered n rest → rest ≡ 0
+      → 0 ≡ nextGroup groups outside numbered n
+  unfolding nextGroup
+  unready-end groups u z =
+      let none : (j : ℕ) → j < n → readyBy (getD outside j 0) numbered j ≡ false = λ j l.
+      u .each j l (rw z (bit-none j)) in
+      rw (find-upTo-none (λ j. readyBy (getD outside j 0) numbered j) n none, le-ltb n n (omega arith))

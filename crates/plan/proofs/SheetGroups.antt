@@ -9,7 +9,7 @@ use Rattle.common.specs.Graph.{distances}
 use Rattle.search.specs.Search.{Holds}
 use Rattle.sheet.specs.declared.index.Sheet.{Sheet}
 use Rattle.sheet.specs.Model.{Model, machineCount}
-use Rattle.sheet.specs.Index.{Indexed, Indexes}
+use Rattle.sheet.specs.Index.{Indexed}
 use Rattle.sheet.proofs.Indexed.{indexes-valid, indexes-machines}
 use Rattle.plan.specs.Needs.{needGraph}
 use Rattle.plan.specs.Groups.{numberedUpto, groupsOf}
@@ -23,12 +23,11 @@ few-machines (m, i) = omega (arith, indexes-machines i, indexes-valid i .few-mac
 pub machines-fit : {s : List ℕ} {x : Sheet} → Indexed s x → x .machines ≤ 64
 machines-fit x = omega (arith, few-machines x)
 
-module _ {s : List ℕ} {x : Sheet} {m : Model} (i : Indexes s x m) where
-  pub groups-kept : {next reach groups outside : List ℕ} → Holds (needGraph m) next → ReachSets next (x .machines) reach
-      → MutualSets reach (x .machines) groups → OutsideSets next groups (x .machines) outside
-      → Grouped (needGraph m) (x .machines) groups outside
+module _ (m : Model) {n : ℕ} (same : n ≡ machineCount m) where
+  pub groups-kept : {next reach groups outside : List ℕ} → Holds (needGraph m) next → ReachSets next n reach
+      → MutualSets reach n groups → OutsideSets next groups n outside → Grouped (needGraph m) n groups outside
   groups-kept {next} k reached both needs =
-      let size = length-needGraph m ∙ sym (indexes-machines i) in
+      let size = length-needGraph m ∙ sym same in
       record {
         size = size;
         next = next;
@@ -37,8 +36,7 @@ module _ {s : List ℕ} {x : Sheet} {m : Model} (i : Indexes s x m) where
         needs = needs;
       }
 
-  pub groups-taken : (r : List ℕ)
-      → take (x .machines) r ≡ numberedUpto (needGraph m) (distances (needGraph m)) (x .machines)
+  pub groups-taken : (r : List ℕ) → take n r ≡ numberedUpto (needGraph m) (distances (needGraph m)) n
       → take (machineCount m) r ≡ groupsOf m
   unfolding groupsOf
-  groups-taken r e = rw (← indexes-machines i) e
+  groups-taken r e = rw (← same) e

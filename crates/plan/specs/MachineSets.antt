@@ -1,8 +1,8 @@
 -- How the code keeps needs and groups: sets of machines, as numbers. A list of sets has one for each machine.
-use Prim.Native.Nat.{ℕ, _<_}
+use Prim.Native.Nat.{ℕ, _≤_, _<_}
 use mathlib.Core.Path.{_≡_}
 use mathlib.Core.List.{List}
-use mathlib.Core.Bool.{Bool, cond, not, _&&_}
+use mathlib.Core.Bool.{Bool, true, cond, not, _&&_, _||_}
 use lib.ListN.{length, getD}
 use lib.Dec.{eqb, ltb}
 use Rattle.common.specs.Bits.{bit}
@@ -53,3 +53,33 @@ pub record Grouped (g : Graph) (n : ℕ) (groups outside : List ℕ) : Type 0 wh
   pub holds : Holds g next
   pub group : (i : ℕ) → i < n → (j : ℕ) → bit (getD groups i 0) j ≡ together g (distances g) i j
   pub needs : OutsideSets next groups n outside
+
+-- Which groups need a group: by numbers for the machines
+
+-- the machines in a set have numbers below 32
+pub record GroupsBelow (numbers : List ℕ) (machines : ℕ) : Type 0 where
+  pub below : (j : ℕ) → bit machines j ≡ true → getD numbers j 0 < 32
+
+-- one of the machines in a set is of group a
+unfoldable pub someOf : List ℕ → ℕ → ℕ → Bool
+someOf numbers machines a = any (λ j. eqb (getD numbers j 0) a) (elements machines)
+
+-- k comes to the sets of the groups of some machines
+pub record PutInto (before numbers : List ℕ) (machines k : ℕ) (after : List ℕ) : Type 0 where
+  pub bits : (a b : ℕ) → bit (getD after a 0) b ≡ (bit (getD before a 0) b || eqb k b && someOf numbers machines a)
+
+-- numbers below 32 for n machines, and the sets of machines that each of them needs
+pub record NumberedNeeds (next numbers : List ℕ) (n : ℕ) : Type 0 where
+  pub sets : length next ≡ 64
+  pub bytes : length numbers ≡ 64
+  pub few : n ≤ 32
+  pub inside : (i j : ℕ) → bit (getD next i 0) j ≡ true → j < n
+  pub below : (i : ℕ) → i < n → getD numbers i 0 < 32
+
+-- of the machines before i, one of group k needs one of group a
+unfoldable pub someNeeds : List ℕ → List ℕ → ℕ → ℕ → ℕ → Bool
+someNeeds next numbers i a k = any (λ j. eqb (getD numbers j 0) k && someOf numbers (getD next j 0) a) (upTo i)
+
+-- for each group, the set of the other groups that need it
+pub record TargetSets (next numbers : List ℕ) (n : ℕ) (sets : List ℕ) : Type 0 where
+  pub bits : (a k : ℕ) → bit (getD sets a 0) k ≡ (not (eqb a k) && someNeeds next numbers n a k)

@@ -2,7 +2,7 @@
 use Prim.Native.Nat.{ℕ, _≤_, _<_}
 use mathlib.Core.Path.{_≡_}
 use mathlib.Core.List.{List, map}
-use mathlib.Core.Bool.{not, _&&_}
+use mathlib.Core.Bool.{true, not, _&&_}
 use lib.ListN.{length, getD}
 use lib.Dec.{eqb, ltb}
 use Rattle.common.specs.Bits.{bit}
@@ -58,3 +58,8 @@ pub record Partitioned (m : Model) (groups : Grouping) (r : Groups) : Type 0 whe
   pub weights : r .weights ≡ cappedWeights m groups
   pub named : (k a : ℕ) → k < 32
       → bit (getD (r .named) k 0) a ≡ any (eqb a) (namedOutside m groups k (movesOf m groups k))
+
+-- for each group, the set of the other groups whose moves name it
+pub record NeededBy (m : Model) (groups : Grouping) (sets : List ℕ) : Type 0 where
+  pub bits : (a k : ℕ) → bit (getD sets a 0) k ≡ any (eqb a) (namedOutside m groups k (movesOf m groups k))
+  pub inside : (a k : ℕ) → bit (getD sets a 0) k ≡ true → k < groupCount groups

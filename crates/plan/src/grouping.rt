@@ -5,7 +5,7 @@ use sheet::record::body;
 use sheet::record::wide;
 ghost use mathlib.Core.Path.{_≡_};
 ghost use Prim.Native.Nat.{_<_, _≤_};
-ghost use lib.ListN.{length, take};
+ghost use lib.ListN.{length, take, replicate};
 ghost use Rattle.sheet.specs.Model.{Model, machineCount, moveOf};
 ghost use Rattle.sheet.specs.Index.{Indexed, Indexes};
 ghost use Rattle.common.specs.Graph.{Graph, distances};
@@ -13,7 +13,9 @@ ghost use Rattle.search.specs.Search.{Holds};
 ghost use Rattle.plan.specs.Needs.{needGraph};
 ghost use Rattle.plan.specs.Groups.{numberedUpto, groupsOf};
 ghost use Rattle.plan.specs.MachineSets.{NamedIn, ReachSets, Mutual, MutualSets, OutsideSets};
-ghost use Rattle.plan.specs.MachineSets.{Grouped, readyBy, nextGroup};
+ghost use Rattle.plan.specs.MachineSets.{Grouped, nextGroup, GroupsBelow, PutInto};
+ghost use Rattle.plan.specs.MachineSets.{NumberedNeeds, TargetSets};
+ghost use Rattle.plan.specs.Partition.{NeededBy};
 
 // The machines that a move names, from its body.
 fn named(body: &[u8]) -> u64
@@ -45,18 +47,16 @@ fn needed(s: &[u8], sheet: Sheet) -> [u64; 64]
     next
 }
 
-// For each of n machines, those that it reaches through needs.
-pub fn reached(next: &[u64], n: usize) -> [u64; 64]
-    requires { ⌜ (length (now next) ≡ 64) × (n ≤ 64) ⌝ }
-    ensures { λ r. ⌜ ReachSets (now (next .entry)) n r ⌝ }
+// Writes, for each of n machines, those that it reaches through needs.
+fn reached(next: &[u64], n: usize, r: &mut [u64])
+    requires { ⌜ (length (now next) ≡ 64) × (n ≤ 64) × (length (now r) ≡ 64) ⌝ }
+    ensures { λ _. ⌜ ReachSets (now (next .entry)) n (now (r .exit)) ⌝ }
 {
-    let mut r = [0u64; 64];
     let mut i: usize = 0;
     while i < n {
         r[i] = search::reach(next, i as u8);
         i += 1;
     }
-    r
 }
 
 // The machines that a machine reaches and that reach it.
@@ -75,40 +75,28 @@ fn mutual(reach: &[u64], m: Machine) -> u64
     r
 }
 
-// For each of n machines, its group.
-fn together(reach: &[u64], n: usize) -> [u64; 64]
-    requires { ⌜ (length (now reach) ≡ 64) × (n ≤ 64) ⌝ }
-    ensures { λ r. ⌜ MutualSets (now (reach .entry)) n r ⌝ }
+// Writes, for each of n machines, its group.
+fn together(reach: &[u64], n: usize, r: &mut [u64])
+    requires { ⌜ (length (now reach) ≡ 64) × (n ≤ 64) × (length (now r) ≡ 64) ⌝ }
+    ensures { λ _. ⌜ MutualSets (now (reach .entry)) n (now (r .exit)) ⌝ }
 {
-    let mut r = [0u64; 64];
     let mut i: usize = 0;
     while i < n {
         r[i] = mutual(reach, Machine(i as u8));
         i += 1;
     }
-    r
 }
 
-// For each of n machines, the machines outside its group that the group needs.
-fn outside(next: &[u64], groups: &[u64], n: usize) -> [u64; 64]
-    requires { ⌜ (length (now next) ≡ 64) × (length (now groups) ≡ 64) × (n ≤ 64) ⌝ }
-    ensures { λ r. ⌜ OutsideSets (now (next .entry)) (now (groups .entry)) n r ⌝ }
+// Writes, for each of n machines, the machines outside its group that the group needs.
+fn outside(next: &[u64], groups: &[u64], n: usize, r: &mut [u64])
+    requires { ⌜ (length (now next) ≡ 64) × (length (now groups) ≡ 64) × (n ≤ 64) × (length (now r) ≡ 64) ⌝ }
+    ensures { λ _. ⌜ OutsideSets (now (next .entry)) (now (groups .entry)) n (now (r .exit)) ⌝ }
 {
-    let mut r = [0u64; 64];
     let mut i: usize = 0;
     while i < n {
         r[i] = sets::minus(search::union_of(next, groups[i]), groups[i]);
         i += 1;
     }
-    r
-}
-
-// A machine has no number, and those that its group needs outside have one.
-fn ready(outside: u64, numbered: u64, m: Machine) -> bool
-    requires { ⌜ m .0 < 64 ⌝ }
-    ensures { λ r. ⌜ r ≡ readyBy outside numbered (m .0) ⌝ }
-{
-    !sets::has(numbered, wide(m.0)) && sets::minus(outside, numbered) == 0
 }
 
 // Of the groups that are ready for a number, the one with the smallest machine; empty if there is none.
@@ -116,12 +104,13 @@ fn next_group(groups: &[u64], outside: &[u64], numbered: u64, n: usize) -> u64
     requires { ⌜ (length (now groups) ≡ 64) × (length (now outside) ≡ 64) × (n ≤ 64) ⌝ }
     ensures { λ r. ⌜ r ≡ nextGroup (now (groups .entry)) (now (outside .entry)) numbered n ⌝ }
 {
-    let mut i: usize = 0;
-    while i < n {
-        if ready(outside[i], numbered, Machine(i as u8)) {
+    let mut rest = sets::minus(sets::first(n), numbered);
+    while rest != 0 {
+        let i = sets::lowest(rest);
+        if sets::minus(outside[i], numbered) == 0 {
             return groups[i];
         }
-        i += 1;
+        rest = sets::rest(rest);
     }
     0
 }
@@ -147,15 +136,70 @@ fn number(groups: &[u64], outside: &[u64], n: usize) -> [u8; 64]
     numbers
 }
 
+// Numbers the groups of n machines by what each of them needs.
+fn by_needs(next: &[u64], n: usize) -> [u8; 64]
+    requires { ⌜ (length (now next) ≡ 64) × (n ≤ 64) ⌝ }
+    ensures { λ r. ⌜ ((m : Model) → Holds (needGraph m) (now (next .entry)) → n ≡ machineCount m
+        → take (machineCount m) r ≡ groupsOf m) ⌝ }
+{
+    let mut reach = [0u64; 64];
+    let mut groups = [0u64; 64];
+    let mut waits = [0u64; 64];
+    reached(next, n, &mut reach);
+    together(&reach, n, &mut groups);
+    outside(next, &groups, n, &mut waits);
+    number(&groups, &waits, n)
+}
+
 // Each machine's group number.
 pub fn groups(s: &[u8], sheet: Sheet) -> [u8; 64]
     requires { ⌜ Indexed (now s) sheet ⌝ }
     ensures { λ r. ⌜ ((m : Model) → Indexes (now (s .entry)) sheet m → take (machineCount m) r ≡ groupsOf m) ⌝ }
 {
+    let next = needed(s, sheet);
+    by_needs(&next, sheet.machines)
+}
+
+// Puts k into the sets of the groups of some machines.
+fn put_into(into: &mut [u64], numbers: &[u8], machines: u64, k: usize)
+    requires { ⌜ (length (now into) ≡ 32) × (length (now numbers) ≡ 64) × (k < 64)
+        × GroupsBelow (now numbers) machines ⌝ }
+    ensures { λ _. ⌜ PutInto (now (into .entry)) (now (numbers .entry)) machines k (now (into .exit)) ⌝ }
+{
+    let mut rest = machines;
+    while rest != 0 {
+        let j = sets::lowest(rest);
+        let a = wide(numbers[j]);
+        into[a] = sets::with(into[a], k);
+        rest = sets::rest(rest);
+    }
+}
+
+// Puts into each group's set the other groups with a machine that needs one of its machines.
+fn put_targets(next: &[u64], numbers: &[u8], n: usize, targets: &mut [u64])
+    requires { ⌜ NumberedNeeds (now next) (now numbers) n × (now targets ≡ replicate 32 0) ⌝ }
+    ensures { λ _. ⌜ TargetSets (now (next .entry)) (now (numbers .entry)) n (now (targets .exit)) ⌝ }
+{
+    let mut i: usize = 0;
+    while i < n {
+        let k = wide(numbers[i]);
+        put_into(targets, numbers, next[i], k);
+        targets[k] = sets::without(targets[k], k);
+        i += 1;
+    }
+}
+
+// Each machine's group number. Puts into each group's set the other groups whose moves name it.
+pub fn ordered(s: &[u8], sheet: Sheet, targets: &mut [u64]) -> [u8; 64]
+    requires { ⌜ Indexed (now s) sheet × (now targets ≡ replicate 32 0) ⌝ }
+    ensures numbers { λ r. ⌜ ((m : Model) → Indexes (now (s .entry)) sheet m
+        → take (machineCount m) r ≡ groupsOf m) ⌝ }
+    ensures targets { λ _. ⌜ ((m : Model) → Indexes (now (s .entry)) sheet m
+        → NeededBy m (groupsOf m) (now (targets .exit))) ⌝ }
+{
     let n = sheet.machines;
     let next = needed(s, sheet);
-    let reach = reached(&next, n);
-    let sets = together(&reach, n);
-    let waits = outside(&next, &sets, n);
-    number(&sets, &waits, n)
+    let numbers = by_needs(&next, n);
+    put_targets(&next, &numbers, n, targets);
+    numbers
 }

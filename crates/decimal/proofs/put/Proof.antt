@@ -29,14 +29,20 @@ returns c = rw (one-digit _ (c .before .before .before .before .if1 .taken)) (c 
 put-digit-requires-2 : tie.Need-put-digit-requires-2
 put-digit-requires-2 c κs =
     let start = c .before .before .before .before in
-    omega (arith, start .pre, ap length (two-digits-are (start .args .n) (c .before .before .if1 .left) (c .before .if2 .taken)))
+    omega (
+      arith,
+      start .pre,
+      ap length (two-digits-are (start .args .n) (c .before .before .if1 .left)
+          (c .before .if2 .taken)),
+    )
 
 -- src/lib.rt:49:9
 put-digit-requires-3 : tie.Need-put-digit-requires-3
 put-digit-requires-3 c κs =
     let start = c .before .before .before .before .before .before .before .before in
     let first = c .before .before .before .put-digit2 in
-    let two = two-digits-are (start .args .n) (c .before .before .before .before .before .before .if1 .left) (c .before .before .before .before .before .if2 .taken) in
+    let two = two-digits-are (start .args .n) (c .before .before .before .before .before .before .if1 .left)
+    (c .before .before .before .before .before .if2 .taken) in
     omega (arith, start .pre, ap length two, first .ensures .0, first .kept .0)
 
 -- src/lib.rt:49:9
@@ -47,8 +53,10 @@ same-length-2 c = search needs
 returns-2 : tie.Need-returns-2
 returns-2 c =
     let start = c .before .before .before .before .before .before .before .before .before .before .before in
-    rw (two-digits-are _ (c .before .before .before .before .before .before .before .before .before .if1 .left) (c .before .before .before .before .before .before .before .before .if2 .taken))
-    (puts-then (start .args .out .now) _ _ _ (omega (arith, start .pre)) (c .before .before .before .before .before .before .put-digit2 .ensures) (c .before .before .put-digit3 .ensures))
+    rw (two-digits-are _ (c .before .before .before .before .before .before .before .before .before .if1 .left)
+    (c .before .before .before .before .before .before .before .before .if2 .taken))
+    (puts-then (start .args .out .now) _ _ _ (omega (arith, start .pre))
+    (c .before .before .before .before .before .before .put-digit2 .ensures) (c .before .before .put-digit3 .ensures))
 
 -- src/lib.rt:51:5
 put-digits-requires : tie.Need-put-digits-requires

@@ -1,4 +1,4 @@
-use Rattle.decimal.proofs.ReadBack.{decimals-right}
+use Rattle.decimal.proofs.Exact.{decimals-right}
 use Rattle.decimal.proofs.promises.decimals_are_right.Statement.{statement}
 use Rattle.decimal.proofs.promises.decimals_are_right.Tie as tie
 

@@ -5,44 +5,33 @@ use Rattle.picture.proofs.SheetDrawn.{drawn-reply, undrawn-reply}
 use borrow.Author.Needs.{needs}
 use Rattle.picture.proofs.graph.draw.Statement.{statement}
 use Rattle.picture.proofs.graph.draw.Tie as tie
-use Rattle.picture.proofs.graph.draw.Reads as reads
-use Rattle.picture.proofs.graph.draw.Lts as lts
-use Rattle.picture.proofs.graph.draw_read.Reads as draw-read-reads
-use Rattle.sheet.proofs.scan.read.Reads as read-reads
 
 -- the sheet that is read and accepted
 indexed : (c : tie.After-enum-told)
     → Indexed (c .before .before .before .before .before .args .file .now) (c .before .before .read .result .sheet)
 indexed c = accepted-indexed _ _ (c .before .before .read .ensures .0) (c .enum-told .given .1)
 
--- src/graph.rt:101:9
 read-requires : tie.Need-read-requires
 read-requires c κs = search needs
 
--- src/graph.rt:103:26
 enum-known-verdict : tie.Need-enum-known-verdict
 enum-known-verdict c = search needs
 
--- src/graph.rt:104:47
 enum-told : tie.Need-enum-told
 enum-told c = search needs
 
--- src/graph.rt:104:9
 draw-read-requires : tie.Need-draw-read-requires
 draw-read-requires c κs = indexed (c .before)
 
--- src/graph.rt:104:9
 same-length : tie.Need-same-length
 same-length c = search needs
 
--- src/graph.rt:104:9
 returns : tie.Need-returns
 returns c =
     let i = indexed (c .before .before .before .before) in
     let told = c .before .before .draw-read .ensures in
     rw (drawn-reply (i .1) _) (told .0 (i .0) (i .1), told .1 (i .0) (i .1))
 
--- src/graph.rt:96:1
 returns-2 : tie.Need-returns-2
 returns-2 c =
     let e = refused-parse _ _ (c .before .before .before .read .ensures .0) (c .before .verdict .given .1) in

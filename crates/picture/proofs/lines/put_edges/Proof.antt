@@ -1,90 +1,40 @@
-use Prim.Native.Nat.{_-_}
-use mathlib.Core.Path.{sym, _∙_}
-use mathlib.Core.Logic.{⊎-elim}
-use native.Mathlib.Nat.{zero-add}
-use native.Mathlib.Omega.{arith}
-use borrow.Author.Needs.{needs}
 use lib.ListN.{length}
-use Rattle.picture.specs.Text.{edgeLine}
-use Rattle.picture.specs.Rows.{edgeRow}
-use Rattle.picture.proofs.Pieces.{edge-short}
-use Rattle.picture.proofs.EdgeRows.{RowUpto, row-none, row-more, row-other, row-end}
+use Rattle.sets.specs.Sets.{elements}
+use Rattle.sets.proofs.Members.{taken-shorter, taken-rest}
+use Rattle.picture.proofs.SetRows.{EdgesBegun, edges-start, edges-room, edges-more, edges-end}
+use borrow.Author.Needs.{needs}
 use Rattle.picture.proofs.lines.put_edges.Statement.{statement}
 use Rattle.picture.proofs.lines.put_edges.Tie as tie
-use Rattle.picture.proofs.lines.put_edges.Reads as reads
-use Rattle.picture.proofs.lines.put_edges.Lts as lts
-use Rattle.picture.proofs.lines.put_edge.Reads as put-edge-reads
-use Rattle.sets.proofs.has.Reads as has-reads
 
 abbrev Inv-loop : tie.InvT-loop
-Inv-loop row₀ sources a end₀ k₀ row end k = RowUpto row₀ sources a edgeLine 14 end k row
+Inv-loop out₀ at targets a end₀ rest₀ out end rest = EdgesBegun out₀ at targets a rest end out
 
 abbrev μ-loop : tie.MeasureT-loop
-μ-loop row₀ sources a end₀ k₀ row end k = length sources - k
+μ-loop out₀ at targets a end₀ rest₀ out end rest = length (elements rest)
 
--- src/lines.rt:97:5
 loop-holds : tie.Need-loop-holds Inv-loop μ-loop
-loop-holds c = row-none _ _ _ _ _
+loop-holds c = search edges-start
 
--- src/lines.rt:98:22
-mul-has : tie.Need-mul-has Inv-loop μ-loop
-mul-has c = omega (arith, c .before .before .before .before .pre .1, c .loop-test .taken)
+lowest-requires : tie.Need-lowest-requires Inv-loop μ-loop
+lowest-requires c κs = search needs
 
--- src/lines.rt:98:22
-shared-slice-read-has : tie.Need-shared-slice-read-has Inv-loop μ-loop
-shared-slice-read-has c = search needs
-
--- src/lines.rt:98:12
-has-requires : tie.Need-has-requires Inv-loop μ-loop
-has-requires c κs =
-    let start = c .before .before .before .before .before in
-    omega (arith, start .pre .2)
-
--- src/lines.rt:99:13
 put-edge-requires : tie.Need-put-edge-requires Inv-loop μ-loop
-put-edge-requires c κs =
-    let at-loop = c .before .before .before .before .before in
-    let start = at-loop .before .before .before in
-    let u = at-loop .loop .inv in
-    let l = c .before .before .before .before .loop-test .taken in
-    (omega (arith, u .size, u .short, start .pre .0, start .pre .1, l), start .pre .2, omega (arith, start .pre .1, l))
+put-edge-requires c κs = search edges-room
 
--- src/lines.rt:101:9
-add-k : tie.Need-add-k Inv-loop μ-loop
-add-k c = search needs
+rest-requires : tie.Need-rest-requires Inv-loop μ-loop
+rest-requires c κs = search needs
 
--- src/lines.rt:97:5
 loop-less : tie.Need-loop-less Inv-loop μ-loop
-loop-less c = search needs
+loop-less c = search (taken-shorter, taken-rest)
 
--- src/lines.rt:97:5
 loop-again : tie.Need-loop-again Inv-loop μ-loop
-loop-again c =
-    let at-loop-test = c .before .before .before in
-    let start = at-loop-test .before .before .before .before in
-    let u = c .before .before .before .before .loop .inv in
-    let l = at-loop-test .loop-test .taken in
-    let has = sym (c .before .has .ensures) in
-    ⊎-elim
-    (λ w.
-    rw (w .5, w .6) (row-more _ _ _ _ _ u l (has ∙ w .0 .taken)
-    (edge-short _ _ (start .pre .2) (omega (arith, start .pre .1, at-loop-test .loop-test .taken))) (w .2 .kept .0)
-    (w .2 .ensures)))
-    (λ w. rw (w .1, w .2) (row-other _ _ _ _ _ u l (has ∙ w .0 .left)))
-    (c .if1 .came)
+loop-again c = search (edges-more, taken-rest)
 
--- src/lines.rt:90:1
 same-length : tie.Need-same-length Inv-loop μ-loop
 same-length c = c .before .loop .inv .size
 
--- src/lines.rt:90:1
 returns : tie.Need-returns Inv-loop μ-loop
-unfolding edgeRow
-returns c =
-    let u = c .before .loop .inv in
-    let start = c .before .before .before .before in
-    let r = row-end _ _ _ _ _ u (c .loop-test .left) in
-    (r .0 ∙ zero-add _, (omega (arith, u .short, u .inside, start .pre .1), r .1))
+returns c = edges-end _ _ _ _ (c .before .loop .inv) (c .loop-test .left)
 
 pub put-edges-spec : {M : Type 1} → statement M
 put-edges-spec =
@@ -93,11 +43,9 @@ put-edges-spec =
     Inv-loop
     μ-loop
     loop-holds
-    mul-has
-    shared-slice-read-has
-    has-requires
+    lowest-requires
     put-edge-requires
-    add-k
+    rest-requires
     loop-less
     loop-again
     same-length

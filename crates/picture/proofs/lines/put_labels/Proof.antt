@@ -1,74 +1,38 @@
-use Prim.Native.Nat.{_-_}
-use mathlib.Core.Path.{sym, _∙_}
-use mathlib.Core.Logic.{⊎-elim}
-use native.Mathlib.Omega.{arith}
-use borrow.Author.Needs.{needs}
 use lib.ListN.{length}
-use Rattle.picture.proofs.Labels.{LabelsUpto, labels-none, labels-more, labels-other, labels-end}
+use Rattle.sets.specs.Sets.{elements}
+use Rattle.sets.proofs.Members.{taken-shorter, taken-rest}
+use Rattle.picture.proofs.SetRows.{LabelsBegun, labels-start, labels-room, labels-more, labels-end}
+use borrow.Author.Needs.{needs}
 use Rattle.picture.proofs.lines.put_labels.Statement.{statement}
 use Rattle.picture.proofs.lines.put_labels.Tie as tie
-use Rattle.picture.proofs.lines.put_labels.Reads as reads
-use Rattle.picture.proofs.lines.put_labels.Lts as lts
-use Rattle.picture.proofs.lines.put_number.Reads as put-number-reads
-use Rattle.sheet.proofs.record.wide.Reads as wide-reads
 
 abbrev Inv-loop : tie.InvT-loop
-Inv-loop row₀ at numbers k end₀ before₀ i₀ row end before i = LabelsUpto row₀ at numbers k end before i row
+Inv-loop out₀ at machines end₀ before₀ rest₀ out end before rest = LabelsBegun out₀ at machines before rest end out
 
 abbrev μ-loop : tie.MeasureT-loop
-μ-loop row₀ at numbers k end₀ before₀ i₀ row end before i = length numbers - i
+μ-loop out₀ at machines end₀ before₀ rest₀ out end before rest = length (elements rest)
 
--- src/lines.rt:55:5
 loop-holds : tie.Need-loop-holds Inv-loop μ-loop
-loop-holds c = labels-none _ _ _ _
+loop-holds c = search labels-start
 
--- src/lines.rt:56:17
-shared-slice-read-wide : tie.Need-shared-slice-read-wide Inv-loop μ-loop
-shared-slice-read-wide c = search needs
+lowest-requires : tie.Need-lowest-requires Inv-loop μ-loop
+lowest-requires c κs = search needs
 
--- src/lines.rt:56:12
-wide-requires : tie.Need-wide-requires Inv-loop μ-loop
-wide-requires c κs = search needs
-
--- src/lines.rt:57:13
 put-number-requires : tie.Need-put-number-requires Inv-loop μ-loop
-put-number-requires c κs =
-    let at-loop-test = c .before .before .before .before in
-    let at-loop = at-loop-test .before in
-    let start = at-loop .before .before .before in
-    let u = at-loop .loop .inv in (
-      omega (arith, u .size, u .short, u .inside, start .pre .0, at-loop-test .loop-test .taken),
-      omega (arith, start .pre .1, at-loop-test .loop-test .taken),
-    )
+put-number-requires c κs = search labels-room
 
--- src/lines.rt:60:9
-add-i : tie.Need-add-i Inv-loop μ-loop
-add-i c = search needs
+rest-requires : tie.Need-rest-requires Inv-loop μ-loop
+rest-requires c κs = search needs
 
--- src/lines.rt:55:5
 loop-less : tie.Need-loop-less Inv-loop μ-loop
-loop-less c = search needs
+loop-less c = search (taken-shorter, taken-rest)
 
--- src/lines.rt:55:5
 loop-again : tie.Need-loop-again Inv-loop μ-loop
-loop-again c =
-    let start = c .before .before .before .before .before .before .before in
-    let u = c .before .before .before .before .loop .inv in
-    let l = c .before .before .before .loop-test .taken in
-    let wide = sym (c .before .wide .ensures .0) in
-    ⊎-elim
-    (λ w.
-    rw (w .5, w .6, w .7)
-    (labels-more _ _ _ _ u l (wide ∙ w .0 .taken) (start .pre .1) (omega (arith, start .pre .0)) (w .2 .kept .0)
-    (w .2 .ensures)))
-    (λ w. rw (w .1, w .2, w .3) (labels-other _ _ _ _ u l (λ e. w .0 .left (sym wide ∙ e))))
-    (c .if1 .came)
+loop-again c = search (labels-more, taken-rest)
 
--- src/lines.rt:46:1
 same-length : tie.Need-same-length Inv-loop μ-loop
 same-length c = c .before .loop .inv .size
 
--- src/lines.rt:46:1
 returns : tie.Need-returns Inv-loop μ-loop
 returns c = labels-end _ _ _ _ (c .before .loop .inv) (c .loop-test .left)
 
@@ -79,10 +43,9 @@ put-labels-spec =
     Inv-loop
     μ-loop
     loop-holds
-    shared-slice-read-wide
-    wide-requires
+    lowest-requires
     put-number-requires
-    add-i
+    rest-requires
     loop-less
     loop-again
     same-length

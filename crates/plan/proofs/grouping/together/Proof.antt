@@ -1,18 +1,20 @@
 use Prim.Native.Nat.{_-_}
-use Rattle.common.proofs.Filling.{Filled, filled-none, filled-next, filled-end}
+use mathlib.Core.Path.{_≡_, sym, _∙_}
+use lib.ListN.{length}
 use Rattle.plan.specs.MachineSets.{Mutual}
+use Rattle.common.proofs.Filling.{Filled, filled-none, filled-next, filled-end}
 use borrow.Author.Needs.{needs}
 use Rattle.plan.proofs.grouping.together.Statement.{statement}
 use Rattle.plan.proofs.grouping.together.Tie as tie
 
 abbrev Inv-loop : tie.InvT-loop
-Inv-loop reach n r₀ i₀ r i = Filled (Mutual reach) n i r
+Inv-loop reach n r₀ i₀ r i = (length r ≡ 64) × Filled (Mutual reach) n i r
 
 abbrev μ-loop : tie.MeasureT-loop
 μ-loop reach n r₀ i₀ r i = n - i
 
 loop-holds : tie.Need-loop-holds Inv-loop μ-loop
-loop-holds c = filled-none _ (search needs)
+loop-holds c = (search needs, filled-none _ (search needs))
 
 cast-t7 : tie.Need-cast-t7 Inv-loop μ-loop
 cast-t7 c = search needs
@@ -23,8 +25,8 @@ mutual-requires c κs = search needs
 mul-r : tie.Need-mul-r Inv-loop μ-loop
 mul-r c = search needs
 
-array-write-r : tie.Need-array-write-r Inv-loop μ-loop
-array-write-r c = search needs
+slice-write-r : tie.Need-slice-write-r Inv-loop μ-loop
+slice-write-r c = search needs
 
 add-i : tie.Need-add-i Inv-loop μ-loop
 add-i c = search needs
@@ -33,10 +35,13 @@ loop-less : tie.Need-loop-less Inv-loop μ-loop
 loop-less c = search needs
 
 loop-again : tie.Need-loop-again Inv-loop μ-loop
-loop-again c = search filled-next
+loop-again c = (search needs, search filled-next)
+
+same-length : tie.Need-same-length Inv-loop μ-loop
+same-length c = c .before .loop .inv .0 ∙ sym (c .before .before .before .before .pre .2)
 
 returns : tie.Need-returns Inv-loop μ-loop
-returns c = record { each = filled-end _ (c .before .loop .inv) (c .loop-test .left) }
+returns c = record { each = filled-end _ (c .before .loop .inv .1) (c .loop-test .left) }
 
 pub together-spec : {M : Type 1} → statement M
 together-spec =
@@ -48,8 +53,9 @@ together-spec =
     cast-t7
     mutual-requires
     mul-r
-    array-write-r
+    slice-write-r
     add-i
     loop-less
     loop-again
+    same-length
     returns)

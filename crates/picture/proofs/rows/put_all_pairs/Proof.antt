@@ -1,0 +1,67 @@
+use Prim.Native.Nat.{_-_}
+use native.Mathlib.Omega.{arith}
+use lib.ListN.{length}
+use Rattle.picture.specs.Rows.{pairRow}
+use Rattle.picture.proofs.RowLoops.{RowsUpto, rows-start, rows-more, rows-room, rows-end}
+use borrow.Author.Needs.{needs}
+use Rattle.picture.proofs.rows.put_all_pairs.Statement.{statement}
+use Rattle.picture.proofs.rows.put_all_pairs.Tie as tie
+
+abbrev Inv-loop : tie.InvT-loop
+Inv-loop out₀ at targets end₀ a₀ out end a = RowsUpto pairRow targets out₀ at end a out
+
+abbrev μ-loop : tie.MeasureT-loop
+μ-loop out₀ at targets end₀ a₀ out end a = length targets - a
+
+loop-holds : tie.Need-loop-holds Inv-loop μ-loop
+loop-holds c = rows-start _ _ _ _
+
+mul-put-pairs : tie.Need-mul-put-pairs Inv-loop μ-loop
+mul-put-pairs c = search needs
+
+shared-slice-read-put-pairs : tie.Need-shared-slice-read-put-pairs Inv-loop μ-loop
+shared-slice-read-put-pairs c = search needs
+
+put-pairs-requires : tie.Need-put-pairs-requires Inv-loop μ-loop
+put-pairs-requires c κs =
+    let start = c .before .before .before .before .before .before in
+    let more = c .before .before .loop-test .taken in (
+      rows-room _ _ _ _ (start .pre .1) (c .before .before .before .loop .inv) more,
+      omega (arith, start .pre .0, more),
+    )
+
+add-a : tie.Need-add-a Inv-loop μ-loop
+add-a c = search needs
+
+loop-less : tie.Need-loop-less Inv-loop μ-loop
+loop-less c = search needs
+
+loop-again : tie.Need-loop-again Inv-loop μ-loop
+loop-again c =
+    let put = c .before .before .put-pairs in
+    let at-loop = c .before .before .before .before .before .before in
+    let start = at-loop .before .before .before in
+    let more = c .before .before .before .before .before .loop-test .taken in
+    rows-more _ _ _ _ (start .pre .1) (at-loop .loop .inv) more (put .kept .0) (put .ensures)
+
+same-length : tie.Need-same-length Inv-loop μ-loop
+same-length c = c .before .loop .inv .size
+
+returns : tie.Need-returns Inv-loop μ-loop
+returns c = rows-end _ _ _ _ (c .before .loop .inv) (c .loop-test .left)
+
+pub put-all-pairs-spec : {M : Type 1} → statement M
+put-all-pairs-spec =
+    tie.close
+    (tie.spec
+    Inv-loop
+    μ-loop
+    loop-holds
+    mul-put-pairs
+    shared-slice-read-put-pairs
+    put-pairs-requires
+    add-a
+    loop-less
+    loop-again
+    same-length
+    returns)

@@ -1,0 +1,79 @@
+use mathlib.Core.Path.{sym, _∙_}
+use Prim.Native.Nat.{_<_}
+use native.Mathlib.Omega.{arith}
+use lib.ListN.{length}
+use Rattle.sets.specs.Sets.{elements}
+use Rattle.sets.proofs.Members.{taken-below, taken-shorter, taken-rest}
+use Rattle.plan.proofs.TargetLoops.{PutUpto, put-none, put-fits, put-next, put-end}
+use borrow.Author.Needs.{needs}
+use Rattle.plan.proofs.grouping.put_into.Statement.{statement}
+use Rattle.plan.proofs.grouping.put_into.Tie as tie
+
+abbrev Inv-loop : tie.InvT-loop
+Inv-loop into₀ numbers machines k rest₀ into rest = PutUpto into₀ numbers machines k rest into
+
+abbrev μ-loop : tie.MeasureT-loop
+μ-loop into₀ numbers machines k rest₀ into rest = length (elements rest)
+
+loop-holds : tie.Need-loop-holds Inv-loop μ-loop
+loop-holds c = search put-none
+
+lowest-requires : tie.Need-lowest-requires Inv-loop μ-loop
+lowest-requires c κs = search needs
+
+shared-slice-read-wide : tie.Need-shared-slice-read-wide Inv-loop μ-loop
+shared-slice-read-wide c = let l : c .before .lowest .result < 64 = search taken-below in omega arith
+
+wide-requires : tie.Need-wide-requires Inv-loop μ-loop
+wide-requires c κs = search needs
+
+mul-with : tie.Need-mul-with Inv-loop μ-loop
+mul-with c = let l : c .wide .result < 32 = search put-fits in omega arith
+
+slice-read-with : tie.Need-slice-read-with Inv-loop μ-loop
+slice-read-with c = let l : c .before .wide .result < 32 = search put-fits in omega arith
+
+with-requires : tie.Need-with-requires Inv-loop μ-loop
+with-requires c κs = search needs
+
+mul-into : tie.Need-mul-into Inv-loop μ-loop
+mul-into c = let l : c .before .before .wide .result < 32 = search put-fits in omega arith
+
+slice-write-into : tie.Need-slice-write-into Inv-loop μ-loop
+slice-write-into c = let l : c .before .before .wide .result < 32 = search put-fits in omega arith
+
+rest-requires : tie.Need-rest-requires Inv-loop μ-loop
+rest-requires c κs = search needs
+
+loop-less : tie.Need-loop-less Inv-loop μ-loop
+loop-less c = search (taken-shorter, taken-rest)
+
+loop-again : tie.Need-loop-again Inv-loop μ-loop
+loop-again c = search (put-next, taken-rest)
+
+same-length : tie.Need-same-length Inv-loop μ-loop
+same-length c = c .before .loop .inv .long ∙ sym (c .before .before .before .before .pre .0)
+
+returns : tie.Need-returns Inv-loop μ-loop
+returns c = search put-end
+
+pub put-into-spec : {M : Type 1} → statement M
+put-into-spec =
+    tie.close
+    (tie.spec
+    Inv-loop
+    μ-loop
+    loop-holds
+    lowest-requires
+    shared-slice-read-wide
+    wide-requires
+    mul-with
+    slice-read-with
+    with-requires
+    mul-into
+    slice-write-into
+    rest-requires
+    loop-less
+    loop-again
+    same-length
+    returns)
