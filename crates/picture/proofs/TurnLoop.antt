@@ -6,12 +6,12 @@ use mathlib.Core.List.{List}
 use mathlib.Core.Bool.{Bool, true, false, not, _&&_, _||_, and-true}
 use native.Mathlib.Omega.{arith}
 use mathlib.Core.Logic.{⊎-elim}
-use borrow.Author.Tests.{eqb-true, eq-eqb, leb-true, leb-false, le-leb, lt-leb, ltb-true}
-use lib.Dec.{eqb, ltb, leb}
+use borrow.Author.Tests.{eqb-true, eq-eqb, leb-true, leb-false, le-leb, lt-leb}
+use lib.Dec.{eqb, leb}
 use lib.ListN.{length, getD}
 use Rattle.common.specs.Bits.{bit}
 use Rattle.common.specs.Lists.{upTo, all}
-use Rattle.common.proofs.Bools.{by-cases, bool-ext, and-left, or-left, or-right, or-cases}
+use Rattle.common.proofs.Bools.{by-cases, bool-ext, or-left, or-right, or-cases}
 use Rattle.sets.specs.Sets.{union, less, least}
 use Rattle.sets.proofs.Laws.{bit-none, bit-union, bit-less, less-from}
 use Rattle.search.specs.Search.{Union}
@@ -80,9 +80,6 @@ module _ {numbers targets : List ℕ} (s : Shows numbers targets) where
       module _ {ready : ℕ} (r : ready ≡ less later' held') where
         ready-is : MachinesIn numbers (λ g. leb (k - 1) g && not (bit waiting' g)) ready
         ready-is = machines-without numbers later-next held-next r
-
-        pub ready-inside : (i : ℕ) → bit ready i ≡ true → i < length numbers
-        ready-inside i t = ltb-true i (length numbers) (and-left (ltb i (length numbers)) _ (sym (ready-is .bits i) ∙ t))
 
         pub set-turn : {b : Bool} → ready < 2 ^ 64
             → b ≡ (not (eqb ready 0) && eqb (getD numbers (least ready) 0) (k - 1))

@@ -1,5 +1,7 @@
 // Whether the groups of a picture have their numbers in turn.
 use plan::partition::members;
+use plan::sizing::group_of;
+use sheet::index::Machine;
 use sheet::record::wide;
 ghost use mathlib.Core.Path.{_≡_};
 ghost use mathlib.Core.Bool.{true, not, _&&_};
@@ -30,10 +32,13 @@ fn machines_of(members: &[u64], groups: u64) -> u64
 
 // Number k is that of the first of the machines that are ready for it.
 fn in_turn(numbers: &[u8], ready: u64, k: usize) -> bool
-    requires { ⌜ ((i : ℕ) → bit ready i ≡ true → i < length (now numbers)) ⌝ }
     ensures { λ r. ⌜ r ≡ (not (eqb ready 0) && eqb (getD (now (numbers .entry)) (least ready) 0) k) ⌝ }
 {
-    ready != 0 && wide(numbers[sets::lowest(ready)]) == k
+    if ready == 0 {
+        return false;
+    }
+    let first = group_of(numbers, Machine(sets::lowest(ready) as u8));
+    wide(first.0) == k
 }
 
 // Each number is in its turn: going down from the last, with the machines of later groups, and those that wait for one.

@@ -1,4 +1,5 @@
 // The groups of a sheet: sets of machines that need one another, numbered so that needs come first.
+use crate::sizing::group_of;
 use sheet::index::Machine;
 use sheet::index::Sheet;
 use sheet::record::body;
@@ -169,7 +170,8 @@ fn put_into(into: &mut [u64], numbers: &[u8], machines: u64, k: usize)
     let mut rest = machines;
     while rest != 0 {
         let j = sets::lowest(rest);
-        let a = wide(numbers[j]);
+        let group = group_of(numbers, Machine(j as u8));
+        let a = wide(group.0);
         into[a] = sets::with(into[a], k);
         rest = sets::rest(rest);
     }
@@ -182,7 +184,8 @@ fn put_targets(next: &[u64], numbers: &[u8], n: usize, targets: &mut [u64])
 {
     let mut i: usize = 0;
     while i < n {
-        let k = wide(numbers[i]);
+        let group = group_of(numbers, Machine(i as u8));
+        let k = wide(group.0);
         put_into(targets, numbers, next[i], k);
         targets[k] = sets::without(targets[k], k);
         i += 1;

@@ -3,7 +3,7 @@ use native.Mathlib.Omega.{arith}
 use borrow.Author.Tests.{not-true, not-false}
 use lib.ListN.{length}
 use Rattle.picture.proofs.ReadySets.{number-fits, turns-all}
-use Rattle.picture.proofs.TurnLoop.{TurnSets, sets-none, new-groups, ready-inside, set-turn, sets-next, sets-fail}
+use Rattle.picture.proofs.TurnLoop.{TurnSets, sets-none, new-groups, set-turn, sets-next, sets-fail}
 use borrow.Author.Needs.{needs}
 use Rattle.picture.proofs.turns.all_in_turn.Statement.{statement}
 use Rattle.picture.proofs.turns.all_in_turn.Tie as tie
@@ -98,18 +98,7 @@ minus-requires-2 c κs = search needs
 
 -- src/turns.rt:56:13
 in-turn-requires : tie.Need-in-turn-requires Inv-loop μ-loop
-in-turn-requires c κs =
-    let in-loop = c .before .before .before .before .before .before .before .before .before in
-    let start = in-loop .before .before .before .before .before in
-    let m = in-loop .before .before .members .ensures in
-    let u = in-loop .before .loop .inv in
-    let some = in-loop .loop-test .taken in
-    let new = c .before .before .before .before .before .before .before .minus .ensures in
-    let waiting = c .before .before .before .before .before .join .ensures in
-    let later = c .before .before .before .before .join2 .ensures in
-    let added = c .before .before .machines-of .ensures in
-    let held = c .before .join3 .ensures in
-    ready-inside (start .pre) m u some new waiting later added held (c .minus2 .ensures)
+in-turn-requires c κs = search needs
 
 -- src/turns.rt:57:13
 returns : tie.Need-returns Inv-loop μ-loop

@@ -21,26 +21,37 @@ loop-holds c = search put-none
 lowest-requires : tie.Need-lowest-requires Inv-loop μ-loop
 lowest-requires c κs = search needs
 
-shared-slice-read-wide : tie.Need-shared-slice-read-wide Inv-loop μ-loop
-shared-slice-read-wide c = let l : c .before .lowest .result < 64 = search taken-below in omega arith
+cast-t10 : tie.Need-cast-t10 Inv-loop μ-loop
+cast-t10 c = let l : c .lowest .result < 64 = search taken-below in omega arith
+
+group-of-requires : tie.Need-group-of-requires Inv-loop μ-loop
+group-of-requires c κs = search needs
 
 wide-requires : tie.Need-wide-requires Inv-loop μ-loop
 wide-requires c κs = search needs
 
 mul-with : tie.Need-mul-with Inv-loop μ-loop
-mul-with c = let l : c .wide .result < 32 = search put-fits in omega arith
+mul-with c = let number = c .wide .ensures .0 ∙ c .before .group-of .ensures in
+    let l : c .wide .result < 32 = search (put-fits, number) in
+    omega arith
 
 slice-read-with : tie.Need-slice-read-with Inv-loop μ-loop
-slice-read-with c = let l : c .before .wide .result < 32 = search put-fits in omega arith
+slice-read-with c = let number = c .before .wide .ensures .0 ∙ c .before .before .group-of .ensures in
+    let l : c .before .wide .result < 32 = search (put-fits, number) in
+    omega arith
 
 with-requires : tie.Need-with-requires Inv-loop μ-loop
 with-requires c κs = search needs
 
 mul-into : tie.Need-mul-into Inv-loop μ-loop
-mul-into c = let l : c .before .before .wide .result < 32 = search put-fits in omega arith
+mul-into c = let number = c .before .before .wide .ensures .0 ∙ c .before .before .before .group-of .ensures in
+    let l : c .before .before .wide .result < 32 = search (put-fits, number) in
+    omega arith
 
 slice-write-into : tie.Need-slice-write-into Inv-loop μ-loop
-slice-write-into c = let l : c .before .before .wide .result < 32 = search put-fits in omega arith
+slice-write-into c = let number = c .before .before .wide .ensures .0 ∙ c .before .before .before .group-of .ensures in
+    let l : c .before .before .wide .result < 32 = search (put-fits, number) in
+    omega arith
 
 rest-requires : tie.Need-rest-requires Inv-loop μ-loop
 rest-requires c κs = search needs
@@ -49,7 +60,8 @@ loop-less : tie.Need-loop-less Inv-loop μ-loop
 loop-less c = search (taken-shorter, taken-rest)
 
 loop-again : tie.Need-loop-again Inv-loop μ-loop
-loop-again c = search (put-next, taken-rest)
+loop-again c = let number = c .before .before .before .wide .ensures .0 ∙ c .before .before .before .before .group-of .ensures in
+    search (put-next, taken-rest, number)
 
 same-length : tie.Need-same-length Inv-loop μ-loop
 same-length c = c .before .loop .inv .long ∙ sym (c .before .before .before .before .pre .0)
@@ -65,7 +77,8 @@ put-into-spec =
     μ-loop
     loop-holds
     lowest-requires
-    shared-slice-read-wide
+    cast-t10
+    group-of-requires
     wide-requires
     mul-with
     slice-read-with

@@ -1,4 +1,4 @@
-use Prim.Native.Nat.{_-_, _<_}
+use Prim.Native.Nat.{_-_}
 use mathlib.Core.Path.{sym, ap, _∙_}
 use lib.ListN.{length}
 use native.Mathlib.Omega.{arith}
@@ -17,8 +17,11 @@ abbrev μ-loop : tie.MeasureT-loop
 loop-holds : tie.Need-loop-holds Inv-loop μ-loop
 loop-holds c = targets-none _ _ _ (c .before .before .before .pre .1)
 
-shared-slice-read-wide : tie.Need-shared-slice-read-wide Inv-loop μ-loop
-shared-slice-read-wide c = search needs
+cast-t9 : tie.Need-cast-t9 Inv-loop μ-loop
+cast-t9 c = search needs
+
+group-of-requires : tie.Need-group-of-requires Inv-loop μ-loop
+group-of-requires c κs = search needs
 
 wide-requires : tie.Need-wide-requires Inv-loop μ-loop
 wide-requires c κs = search needs
@@ -33,7 +36,8 @@ put-into-requires : tie.Need-put-into-requires Inv-loop μ-loop
 put-into-requires c κs =
     let at-loop = c .before .before .before .before .before in
     let needs = at-loop .before .before .before .before .pre .0 in
-    let fits : c .before .before .wide .result < 32 = search target-fits in
+    let number = c .before .before .wide .ensures .0 ∙ c .before .before .before .group-of .ensures in
+    let fits = target-fits _ _ _ needs (c .before .before .before .before .loop-test .taken) number in
     (at-loop .loop .inv .long, needs .bytes, omega arith, targets-below _ _ _ needs _)
 
 mul-without : tie.Need-mul-without Inv-loop μ-loop
@@ -42,13 +46,18 @@ mul-without c = search needs
 slice-read-without : tie.Need-slice-read-without Inv-loop μ-loop
 slice-read-without c =
     let at-wide = c .before .before .before .before .before .before in
-    let fits : at-wide .wide .result < 32 = search target-fits in
-    omega (arith, c .before .before .before .put-into .kept .0, at-wide .before .before .before .loop .inv .long)
+    let in-loop = at-wide .before .before in
+    let number = at-wide .wide .ensures .0 ∙ at-wide .before .group-of .ensures in
+    let fits = target-fits _ _ _ (in-loop .before .before .before .before .before .pre .0) (in-loop .loop-test .taken) number in
+    omega (arith, fits, c .before .before .before .put-into .kept .0, in-loop .before .loop .inv .long)
 
 without-requires : tie.Need-without-requires Inv-loop μ-loop
 without-requires c κs =
-    let fits : c .before .before .before .before .before .before .wide .result < 32 = search target-fits in
-    omega arith
+    let at-wide = c .before .before .before .before .before .before in
+    let in-loop = at-wide .before .before in
+    let number = at-wide .wide .ensures .0 ∙ at-wide .before .group-of .ensures in
+    let fits = target-fits _ _ _ (in-loop .before .before .before .before .before .pre .0) (in-loop .loop-test .taken) number in
+    omega (arith, fits)
 
 mul-targets : tie.Need-mul-targets Inv-loop μ-loop
 mul-targets c = search needs
@@ -57,8 +66,10 @@ slice-write-targets : tie.Need-slice-write-targets Inv-loop μ-loop
 slice-write-targets c =
     let put = c .before .before .before .before .put-into in
     let at-wide = c .before .before .before .before .before .before .before in
-    let fits : at-wide .wide .result < 32 = search target-fits in
-    omega (arith, put .kept .0, at-wide .before .before .before .loop .inv .long)
+    let in-loop = at-wide .before .before in
+    let number = at-wide .wide .ensures .0 ∙ at-wide .before .group-of .ensures in
+    let fits = target-fits _ _ _ (in-loop .before .before .before .before .before .pre .0) (in-loop .loop-test .taken) number in
+    omega (arith, fits, put .kept .0, in-loop .before .loop .inv .long)
 
 add-i : tie.Need-add-i Inv-loop μ-loop
 add-i c = search needs
@@ -70,10 +81,10 @@ loop-again : tie.Need-loop-again Inv-loop μ-loop
 loop-again c =
     let put = c .before .before .before .before .put-into in
     let at-wide = c .before .before .before .before .before .before .before in
-    let at-loop-test = at-wide .before .before in
-    let fits : at-wide .wide .result < 32 = search target-fits in
-    targets-next _ _ _ (at-loop-test .before .loop .inv) (at-loop-test .loop-test .taken) fits
-    (at-wide .wide .ensures .0) (put .kept .0) (put .ensures) (c .without .ensures)
+    let in-loop = at-wide .before .before in
+    let number = at-wide .wide .ensures .0 ∙ at-wide .before .group-of .ensures in
+    let fits = target-fits _ _ _ (in-loop .before .before .before .before .before .pre .0) (in-loop .loop-test .taken) number in
+    targets-next _ _ _ (in-loop .before .loop .inv) (in-loop .loop-test .taken) fits number (put .kept .0) (put .ensures) (c .without .ensures)
 
 same-length : tie.Need-same-length Inv-loop μ-loop
 same-length c = c .before .loop .inv .long ∙ sym (ap length (c .before .before .before .before .before .pre .1))
@@ -88,7 +99,8 @@ put-targets-spec =
     Inv-loop
     μ-loop
     loop-holds
-    shared-slice-read-wide
+    cast-t9
+    group-of-requires
     wide-requires
     mul-put-into
     shared-slice-read-put-into
