@@ -1,7 +1,7 @@
--- The pass down the group numbers that gathers what is upstream of some groups. A group names only lower ones, so once
--- the pass is at j, what the groups from j up name is marked, and no mark from j up changes any more.
+-- The pass down the group numbers that marks what is upstream of some groups. A group names lower ones alone, so once the
+-- pass has been at a number, the marks from there up are final.
 -- Assumes nothing.
-use Prim.Native.Nat.{ℕ, zero, suc, _-_, _≤_, _<_, zero-le}
+use Prim.Native.Nat.{ℕ, zero, suc, _+_, _-_, _≤_, _<_, zero-le}
 use mathlib.Core.Path.{_≡_, refl, sym, _∙_}
 use mathlib.Core.Logic.{_↔_, _⊎_, inl, inr, ⊎-elim}
 use mathlib.Core.List.{List, List·Memᴰ, Memᴰ·cast}
@@ -16,11 +16,11 @@ use Rattle.common.specs.Lists.{upTo}
 use Rattle.common.specs.Graph.{Chain, here, step}
 use Rattle.common.proofs.Graph.{chain-zero}
 use Rattle.common.proofs.Bools.{true-false, bool-ext, and-intro, and-left, and-right}
-use Rattle.common.proofs.Bools.{or-left, or-right, or-cases, or-false-intro}
+use Rattle.common.proofs.Bools.{or-left, or-right, or-cases}
 use Rattle.common.proofs.Lists.{any-intro, any-some}
 use Rattle.common.proofs.Members.{upTo-mem}
-use Rattle.sets.specs.Sets.{union}
-use Rattle.sets.proofs.Laws.{bit-none, bit-union}
+use Rattle.sets.specs.Sets.{alone, union}
+use Rattle.sets.proofs.Laws.{bit-none, bit-alone, bit-union}
 use Rattle.sheet.specs.Model.{Model}
 use Rattle.sheet.specs.Valid.{Valid}
 use Rattle.plan.specs.Groups.{groupCount, namedOutside}
@@ -29,24 +29,10 @@ use Rattle.plan.specs.Laws.{counted}
 use Rattle.plan.proofs.Named.{named-by}
 use Rattle.plan.proofs.Counted.{counted-moves}
 use Rattle.command.specs.Ancestors.{groupGraph, upstreamIn}
-use Rattle.command.specs.Question.{NamedBy, UpstreamSet, UpstreamOfSome}
+use Rattle.command.specs.Question.{Names, NamedBy, UpstreamSet, UpstreamOfSome, MarkedFrom}
 use Rattle.command.proofs.Shape.{move-below, few-groups}
 use Rattle.command.proofs.Upstream.{groupGraph-names, upstream-chain, upstream-other, named-upstream}
 use Rattle.command.proofs.Upstream.{upstream-below, upstream-count, upstream-trans}
-
-module _ (m : Model) (plan : List ℕ) where
-  -- a counted move of group c names group a
-  abbrev pub Names : ℕ → ℕ → Type 0
-  Names c a = List·Memᴰ a (namedOutside m (groupsIn m plan) c (counted m plan c))
-
-  -- group c is b, or upstream of it
-  abbrev pub AtOrUpstream : ℕ → ℕ → Type 0
-  AtOrUpstream b c = (c ≡ b) ⊎ (upstreamIn m plan b c ≡ true)
-
-  -- s holds what some groups and those upstream of them name, as far as the ones that name are numbered j or more
-  pub record Marked (groups : ℕ → Bool) (j s : ℕ) : Type 0 where
-    pub bits : (a : ℕ) → (bit s a ≡ true)
-        ↔ ((b : ℕ) × (groups b ≡ true) × (c : ℕ) × (j ≤ c) × AtOrUpstream b c × Names c a)
 
 module _ (m : Model) (valid : Valid m) (plan : List ℕ) (shaped : wellShaped m plan ≡ true) where
   names-count : (c a : ℕ) → Names m plan c a → c < groupCount (groupsIn m plan)
@@ -54,213 +40,219 @@ module _ (m : Model) (valid : Valid m) (plan : List ℕ) (shaped : wellShaped m 
       let by = named-by m (groupsIn m plan) c (counted m plan c) l in
       move-below m valid plan shaped c (by .0) (counted-moves m plan c (by .1))
 
-  -- upstream: what is named there, by the group or by one upstream of it
-  names-upstream : (b c a : ℕ) → AtOrUpstream m plan b c → Names m plan c a → upstreamIn m plan b a ≡ true
-  names-upstream b c a way l =
-      let up = named-upstream m valid plan shaped c a l (names-count c a l) in
-      ⊎-elim (λ e. rw e at up) (λ u. upstream-trans m valid plan shaped b c a u up) way
+  names-upstream : (c a : ℕ) → Names m plan c a → upstreamIn m plan c a ≡ true
+  names-upstream c a l = named-upstream m valid plan shaped c a l (names-count c a l)
+
+  names-below : (c a : ℕ) → Names m plan c a → a < c
+  names-below c a l = upstream-below m valid plan shaped c a (names-upstream c a l)
+
+  -- group c is b, or upstream of it
+  abbrev AtOrUpstream : ℕ → ℕ → Type 0
+  AtOrUpstream b c = (c ≡ b) ⊎ (upstreamIn m plan b c ≡ true)
 
   chain-named : {d : ℕ} (b a : ℕ) → Chain (groupGraph m (groupsIn m plan) (counted m plan)) (suc d) b a
-      → (c : ℕ) × AtOrUpstream m plan b c × Names m plan c a
+      → (c : ℕ) × AtOrUpstream b c × Names m plan c a
   chain-named b a (step n l here) = (b, inl refl, groupGraph-names m (groupsIn m plan) (counted m plan) b n l)
   chain-named b a (step n l (step o h rest)) =
       let (c, way, last) = chain-named n a (step o h rest) in
-      let first = groupGraph-names m (groupsIn m plan) (counted m plan) b n l in
-      let up = named-upstream m valid plan shaped b n first (names-count b n first) in
+      let up = names-upstream b n (groupGraph-names m (groupsIn m plan) (counted m plan) b n l) in
       (c, inr (⊎-elim (λ e. rw e up) (λ u. upstream-trans m valid plan shaped b n c up u) way), last)
 
-  upstream-named : (b a : ℕ) → upstreamIn m plan b a ≡ true → (c : ℕ) × AtOrUpstream m plan b c × Names m plan c a
+  -- what is upstream of a group is named by it, or by one upstream of it
+  upstream-named : (b a : ℕ) → upstreamIn m plan b a ≡ true → (c : ℕ) × AtOrUpstream b c × Names m plan c a
   upstream-named b a u =
       let (d, chain) = upstream-chain m (groupsIn m plan) (counted m plan) b a u in
       go d chain (upstream-other m (groupsIn m plan) (counted m plan) b a u)
     where
       go : (d : ℕ) → Chain (groupGraph m (groupsIn m plan) (counted m plan)) d b a → (a ≡ b → ⊥)
-          → (c : ℕ) × AtOrUpstream m plan b c × Names m plan c a
+          → (c : ℕ) × AtOrUpstream b c × Names m plan c a
       go zero chain n = absurd (n (sym (chain-zero chain)))
       go (suc d) chain n = chain-named b a chain
 
   -- The pass
 
-  module _ (groups : ℕ → Bool) where
-    pub marked-none : {j : ℕ} → ((b : ℕ) → groups b ≡ true → b < groupCount (groupsIn m plan) → b < j)
-        → Marked m plan groups j 0
-    marked-none {j} low =
+  module _ (groups : ℕ) where
+    -- nothing is marked before it
+    pub marked-none : {top : ℕ} → ((k : ℕ) → bit groups k ≡ true → k < groupCount (groupsIn m plan) → k < top)
+        → MarkedFrom m plan groups top 0
+    marked-none low =
         record {
-          bits = λ a. (
+          final = λ a h. (
             λ t. absurd (true-false t (bit-none a)),
-            λ (b, of, c, h, way, names).
-                absurd
-                (⊎-elim
-                (λ e. let l = low b of (rw e at (names-count c a names)) in let f : ⊥ = omega arith in f)
-                (λ u.
-                let l = low b of (upstream-count m valid plan shaped b c u) in
-                let f : ⊥ = omega (arith, upstream-below m valid plan shaped b c u) in
-                f)
-                way),
+            λ (b, of, u).
+                let l = low b of (upstream-count m valid plan shaped b a u) in
+                absurd (let f : ⊥ = omega (arith, upstream-below m valid plan shaped b a u) in f),
+          );
+          so-far = λ a h. (
+            λ t. absurd (true-false t (bit-none a)),
+            λ (c, l, on, names).
+                ⊎-elim
+                (λ e. absurd (true-false e (bit-none c)))
+                (λ of. let k = low c of (names-count c a names) in absurd (let f : ⊥ = omega arith in f))
+                (or-cases (bit 0 c) (bit groups c) on),
           );
         }
 
-    module _ {named : List ℕ} (by : NamedBy m plan named) {j s : ℕ} (few : j ≤ 32) (k : Marked m plan groups j s)
-        (some : 0 < j) where
+    module _ {j s : ℕ} (k : MarkedFrom m plan groups j s) (some : 0 < j) where
       abbrev i : ℕ
       i = j - 1
 
-      -- the next group down is one of these, or upstream of one, where it is marked or one of these
-      hit : (bit s i || groups i ≡ true) ↔ ((b : ℕ) × (groups b ≡ true) × AtOrUpstream m plan b i)
-      hit = (
+      -- the next group down is marked where it is upstream of one: only groups that have been passed can name it
+      next-final : (bit s i ≡ true) ↔ ((b : ℕ) × (bit groups b ≡ true) × (upstreamIn m plan b i ≡ true))
+      next-final = (
         λ t.
+            let (c, h, on, names) = k .so-far i (omega arith) .0 t in
+            let up = names-upstream c i names in
             ⊎-elim
-            (λ e. let (b, of, c, h, way, names) = k .bits i .0 e in (b, of, inr (names-upstream b c i way names)))
-            (λ e. (i, e, inl refl))
-            (or-cases (bit s i) (groups i) t),
-        λ (b, of, way).
-            ⊎-elim
-            (λ e. or-right (bit s i) (rw e of))
-            (λ u.
-            let (c, on, names) = upstream-named b i u in
-            let low = upstream-below m valid plan shaped c i (names-upstream c c i (inl refl) names) in
-            or-left (groups i) (k .bits i .1 (b, of, c, omega arith, on, names)))
-            way,
+            (λ e. let (b, of, u) = k .final c h .0 e in (b, of, upstream-trans m valid plan shaped b c i u up))
+            (λ of. (c, of, up))
+            (or-cases (bit s c) (bit groups c) on),
+        λ (b, of, u).
+            let (c, way, names) = upstream-named b i u in
+            let low = names-below c i names in
+            let h : j ≤ c = omega arith in
+            let on = ⊎-elim
+            (λ e. or-right (bit s c) (rw e of))
+            (λ v. or-left (bit groups c) (k .final c h .1 (b, of, v)))
+            way in
+            k .so-far i (omega arith) .1 (c, h, on, names),
       )
 
-      named-bit : (a : ℕ) → (bit (getD named i 0) a ≡ true) ↔ Names m plan i a
-      named-bit a = (
-        λ t.
-            let (x, x-in, e) = any-some (eqb a) _ (sym (by .bits i a (omega arith)) ∙ t) in
-            Memᴰ·cast (eqb-true a x e) x-in,
-        λ names. by .bits i a (omega arith) ∙ any-intro (eqb a) names (eq-eqb a a refl),
-      )
+      module _ {named : List ℕ} (by : NamedBy m plan named) (few : j ≤ 32) where
+        named-bit : (a : ℕ) → (bit (getD named i 0) a ≡ true) ↔ Names m plan i a
+        named-bit a = (
+          λ t.
+              let (x, x-in, e) = any-some (eqb a) _ (sym (by .bits i a (omega arith)) ∙ t) in
+              Memᴰ·cast (eqb-true a x e) x-in,
+          λ names. by .bits i a (omega arith) ∙ any-intro (eqb a) names (eq-eqb a a refl),
+        )
 
-      pub marked-next : {t : ℕ} → ((a : ℕ) → bit t a ≡ (bit s a || ((bit s i || groups i) && bit (getD named i 0) a)))
-          → Marked m plan groups (j - 1) t
-      marked-next {t} bits =
-          record {
-            bits = λ a. (
-              λ h.
-                  ⊎-elim
-                  (λ e. let (b, of, c, l, way, names) = k .bits a .0 e in (b, of, c, omega arith, way, names))
-                  (λ e.
-                  let (b, of, way) = hit .0 (and-left _ _ e) in
-                  let names = named-bit a .0 (and-right (bit s i || groups i) _ e) in
-                  (b, of, i, omega arith, way, names))
-                  (or-cases (bit s a) _ (sym (bits a) ∙ h)),
-              λ (b, of, c, l, way, names).
-                  bits a
-                  ∙ ⊎-elim
-                  (λ e.
-                  or-right (bit s a)
-                  (and-intro (hit .1 (b, of, rw e way)) (named-bit a .1 (rw e names))))
-                  (λ g. or-left _ (k .bits a .1 (b, of, c, omega arith, way, names)))
-                  (eq-or-lt-of-le l),
-            );
-          }
+        module _ (t : ℕ) (bits : (a : ℕ) → bit t a ≡ (bit s a || ((bit s i || bit groups i) && bit (getD named i 0) a))) where
+          -- no mark from the next group up changes any more
+          same : (a : ℕ) → i ≤ a → bit t a ≡ bit s a
+          same a h =
+              bits a
+              ∙ bool-ext
+              (λ t.
+              ⊎-elim
+              (λ e. e)
+              (λ e.
+              let low = names-below i a (named-bit a .0 (and-right (bit s i || bit groups i) _ e)) in
+              absurd (let f : ⊥ = omega arith in f))
+              (or-cases (bit s a) _ t))
+              (λ e. or-left _ e)
 
-    pub marked-end : {s : ℕ} → Marked m plan groups 0 s → (a : ℕ)
-        → (bit s a ≡ true) ↔ ((b : ℕ) × (groups b ≡ true) × (upstreamIn m plan b a ≡ true))
-    marked-end k a = (
-      λ t. let (b, of, c, h, way, names) = k .bits a .0 t in (b, of, names-upstream b c a way names),
-      λ (b, of, u). let (c, way, names) = upstream-named b a u in k .bits a .1 (b, of, c, zero-le, way, names),
-    )
+          same-on : (c : ℕ) → i ≤ c → bit t c || bit groups c ≡ (bit s c || bit groups c)
+          same-on c h = rw (same c h)
 
--- The same as the code keeps it, over the sets of what each group names
-pub record Pass (named : List ℕ) (groups : ℕ → Bool) (j s : ℕ) : Type 0 where
-  pub few : j ≤ 32
-  pub marked : (m : Model) (plan : List ℕ) → Valid m → wellShaped m plan ≡ true → NamedBy m plan named
-      → Marked m plan groups j s
+          pub marked-next : MarkedFrom m plan groups i t
+          marked-next =
+              record {
+                final = λ a h.
+                    rw (same a h)
+                    (⊎-elim (λ e. rw e at next-final) (λ l. k .final a (omega arith)) (eq-or-lt-of-le h));
+                so-far = λ a h. (
+                  λ e.
+                      ⊎-elim
+                      (λ old.
+                      let (c, l, on, names) = k .so-far a (omega arith) .0 old in
+                      let far : i ≤ c = omega arith in
+                      (c, far, same-on c far ∙ on, names))
+                      (λ new.
+                      let on = and-left _ _ new in
+                      let names = named-bit a .0 (and-right (bit s i || bit groups i) _ new) in
+                      let far : i ≤ i = omega arith in
+                      (i, far, same-on i far ∙ on, names))
+                      (or-cases (bit s a) _ (sym (bits a) ∙ e)),
+                  λ (c, l, on, names).
+                      let kept = sym (same-on c l) ∙ on in
+                      bits a
+                      ∙ ⊎-elim
+                      (λ e.
+                      or-right (bit s a)
+                      (and-intro {a = bit s i || bit groups i} {b = bit (getD named i 0) a} (rw e kept) (named-bit a .1 (rw e names))))
+                      (λ g. or-left _ (k .so-far a (omega arith) .1 (c, omega arith, kept, names)))
+                      (eq-or-lt-of-le l),
+                );
+              }
 
-module _ {named : List ℕ} {groups : ℕ → Bool} {j s : ℕ} (p : Pass named groups j s) (some : 0 < j) where
-  pub pass-in : {t : ℕ} → bit s (j - 1) || groups (j - 1) ≡ true → t ≡ union s (getD named (j - 1) 0)
-      → Pass named groups (j - 1) t
-  pass-in {t} h e =
-      record {
-        few = omega (arith, p .few);
-        marked = λ m plan valid shaped by.
-            marked-next m valid plan shaped groups by (p .few) (p .marked m plan valid shaped by) some
-            (λ a. rw (e, bit-union, h));
-      }
+-- The same as the code keeps it, over the sets of what each group names, in a pass that goes on from the marks at top
+pub record Pass (named : List ℕ) (groups marks top j s : ℕ) : Type 0 where
+  pub few : j ≤ top
+  pub kept : (m : Model) (plan : List ℕ) (all : ℕ) → Valid m → wellShaped m plan ≡ true → NamedBy m plan named
+      → ((a : ℕ) → a < top → bit groups a ≡ bit all a) → MarkedFrom m plan all top marks → MarkedFrom m plan all j s
 
-  pub pass-out : bit s (j - 1) || groups (j - 1) ≡ false → Pass named groups (j - 1) s
-  pass-out h =
-      record {
-        few = omega (arith, p .few);
-        marked = λ m plan valid shaped by.
-            marked-next m valid plan shaped groups by (p .few) (p .marked m plan valid shaped by) some
-            (λ a. rw (h, or-false));
-      }
+module _ {named : List ℕ} {groups marks top : ℕ} where
+  pub pass-start : Pass named groups marks top top marks
+  pass-start = record { few = omega arith; kept = λ m plan all valid shaped by same k. k }
 
--- of one group k: the pass begins behind it
-module _ {named : List ℕ} {k : ℕ} where
-  pub one-start : {s : ℕ} → k < 32 → s ≡ getD named k 0 → Pass named (eqb k) k s
-  one-start {s} h e =
-      let last : suc k - 1 ≡ k = omega arith in
-      record {
-        few = omega arith;
-        marked = λ m plan valid shaped by.
-            rw last at
-            (marked-next m valid plan shaped (eqb k) by {j = suc k} (omega arith)
-            (marked-none m valid plan shaped (eqb k) (λ b of l. let e = eqb-true k b of in omega arith)) (omega arith)
-            {t = s}
-            (λ a. rw (last, bit-none a, or-right (bit 0 k) (eq-eqb k k refl), e)));
-      }
+  module _ (most : top ≤ 32) {j s : ℕ} (p : Pass named groups marks top j s) (some : 0 < j) where
+    next : (t : ℕ) → ((a : ℕ) → bit t a ≡ (bit s a || (bit (union s groups) (j - 1) && bit (getD named (j - 1) 0) a)))
+        → Pass named groups marks top (j - 1) t
+    next t bits =
+        record {
+          few = omega (arith, p .few);
+          kept = λ m plan all valid shaped by same k.
+              marked-next m valid plan shaped all (p .kept m plan all valid shaped by same k) some by
+              (omega (arith, p .few)) t
+              (rw (bit-union, same (j - 1) (omega (arith, p .few))) at bits);
+        }
 
-  module _ {j s : ℕ} (p : Pass named (eqb k) j s) (some : 0 < j) (low : j ≤ k) {b : Bool} (e : b ≡ bit s (j - 1)) where
-    pub one-in : {t : ℕ} → b ≡ true → t ≡ union s (getD named (j - 1) 0) → Pass named (eqb k) (j - 1) t
-    one-in h = pass-in p some (or-left _ (sym e ∙ h))
+    -- a group that is marked or one of these, as the code tests it, has what it names marked
+    pub pass-next : {t u : ℕ} {b : Bool} → u ≡ union s groups → b ≡ bit u (j - 1)
+        → ((b ≡ true) × (t ≡ union s (getD named (j - 1) 0))) ⊎ ((b ≡ false) × (t ≡ s))
+        → Pass named groups marks top (j - 1) t
+    pass-next {t} e f (inl (h, g)) = next t (λ a. rw (g, bit-union, ← e, sym f ∙ h))
+    pass-next {t} e f (inr (h, g)) = next t (λ a. rw (g, ← e, sym f ∙ h, or-false))
 
-    pub one-out : b ≡ false → Pass named (eqb k) (j - 1) s
-    one-out h = pass-out p some (or-false-intro (sym e ∙ h) (ne-eqb k (j - 1) (omega arith)))
-
-  pub one-end : {j s g : ℕ} → k ≡ g → Pass named (eqb k) j s → j ≤ 0
-      → (m : Model) (plan : List ℕ) → Valid m → wellShaped m plan ≡ true → g < groupCount (groupsIn m plan)
-      → NamedBy m plan named → UpstreamSet m plan g s
-  one-end {j} {s} own p end m plan valid shaped there by =
+  pub pass-end : {j s : ℕ} → Pass named groups marks top j s → j ≤ 0 → (m : Model) (plan : List ℕ) (all : ℕ)
+      → Valid m → wellShaped m plan ≡ true → NamedBy m plan named → ((a : ℕ) → a < top → bit groups a ≡ bit all a)
+      → MarkedFrom m plan all top marks → MarkedFrom m plan all 0 s
+  pass-end {j} p end m plan all valid shaped by same k =
       let zero-there : j ≡ 0 = omega arith in
-      let told = marked-end m valid plan shaped (eqb k) (rw zero-there at (p .marked m plan valid shaped by)) in
-      record {
-        bits = λ a.
-            rw (← own)
-            (bool-ext
-            (λ t. let (b, of, u) = told a .0 t in rw (eqb-true k b of) u)
-            (λ u. told a .1 (k, eq-eqb k k refl, u)));
-      }
+      rw zero-there at (p .kept m plan all valid shaped by same k)
 
--- of the groups of a set: from the highest number
-module _ {named : List ℕ} (groups : ℕ) where
-  pub some-start : Pass named (bit groups) 32 0
-  some-start =
-      record {
-        few = omega arith;
-        marked = λ m plan valid shaped by.
-            marked-none m valid plan shaped (bit groups) (λ b of l. omega (arith, few-groups m valid plan shaped));
-      }
-
-  module _ {j s : ℕ} (p : Pass named (bit groups) j s) (some : 0 < j) {u : ℕ} (e : u ≡ union s groups)
-      {b : Bool} (f : b ≡ bit u (j - 1)) where
-    joined : bit s (j - 1) || bit groups (j - 1) ≡ b
-    joined = sym (f ∙ rw (e, bit-union))
-
-    pub some-in : {t : ℕ} → b ≡ true → t ≡ union s (getD named (j - 1) 0) → Pass named (bit groups) (j - 1) t
-    some-in h = pass-in p some (joined ∙ h)
-
-    pub some-out : b ≡ false → Pass named (bit groups) (j - 1) s
-    some-out h = pass-out p some (joined ∙ h)
-
-  pub some-end : {j s : ℕ} → Pass named (bit groups) j s → j ≤ 0
-      → (m : Model) (plan : List ℕ) → Valid m → wellShaped m plan ≡ true → NamedBy m plan named
-      → UpstreamOfSome m plan groups s
-  some-end {j} {s} p end m plan valid shaped by =
-      let zero-there : j ≡ 0 = omega arith in
-      let told = marked-end m valid plan shaped (bit groups) (rw zero-there at (p .marked m plan valid shaped by)) in
+module _ (m : Model) (valid : Valid m) (plan : List ℕ) (shaped : wellShaped m plan ≡ true) where
+  -- the marks of some groups, at the end
+  pub some-end : {groups s : ℕ} → MarkedFrom m plan groups 0 s → UpstreamOfSome m plan groups s
+  some-end {groups} told =
       record {
         bits = λ only a.
             bool-ext
             (λ t.
-            let (b, of, u) = told a .0 t in
+            let (b, of, u) = told .final a zero-le .0 t in
             let below = upstream-count m valid plan shaped b a u in
             let few : b < 32 = omega (arith, few-groups m valid plan shaped) in
             any-intro (λ k. bit groups k && upstreamIn m plan k a) {x = b} (upTo-mem {i = b} few)
             (and-intro {a = bit groups b} {b = upstreamIn m plan b a} of u))
             (λ t.
             let (b, b-in, both) = any-some _ (upTo 32) t in
-            told a .1 (b, and-left _ _ both, and-right (bit groups b) _ both));
+            told .final a zero-le .1 (b, and-left _ _ both, and-right (bit groups b) _ both));
       }
+
+  -- the marks of group k: those that it names, when the pass has been at it
+  module _ {k : ℕ} where
+    own : (b : ℕ) → bit (alone k) b ≡ true → k ≡ b
+    own b t = eqb-true k b (sym (bit-alone k b) ∙ t)
+
+    pub one-start : {named : List ℕ} → NamedBy m plan named → k < 32 → MarkedFrom m plan (alone k) k (getD named k 0)
+    one-start {named} by few =
+        let last : suc k - 1 ≡ k = omega arith in
+        rw last at
+        (marked-next m valid plan shaped (alone k) {j = suc k}
+        (marked-none m valid plan shaped (alone k) (λ b t h. let e = own b t in omega arith)) (omega arith) by (omega arith)
+        (getD named k 0)
+        (λ a. rw (last, bit-none a, or-right (bit 0 k) (bit-alone k k ∙ eq-eqb k k refl))))
+
+    pub one-rest : (a : ℕ) → a < k → bit 0 a ≡ bit (alone k) a
+    one-rest a h = bit-none a ∙ sym (bit-alone k a ∙ ne-eqb k a (omega arith))
+
+    pub one-end : {g s : ℕ} → k ≡ g → MarkedFrom m plan (alone k) 0 s → UpstreamSet m plan g s
+    one-end same told =
+        record {
+          bits = λ a.
+              rw (← same)
+              (bool-ext
+              (λ t. let (b, of, u) = told .final a zero-le .0 t in rw (own b of) u)
+              (λ u. told .final a zero-le .1 (k, bit-alone k k ∙ eq-eqb k k refl, u)));
+        }

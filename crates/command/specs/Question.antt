@@ -1,7 +1,8 @@
 -- How the code keeps one question: what its goal allows, the groups that the plan numbers, and the mode that each is in.
-use Prim.Native.Nat.{ℕ, _+_, _<_}
+use Prim.Native.Nat.{ℕ, _+_, _≤_, _<_}
 use mathlib.Core.Path.{_≡_}
-use mathlib.Core.List.{List}
+use mathlib.Core.Logic.{_↔_}
+use mathlib.Core.List.{List, List·Memᴰ}
 use mathlib.Core.Bool.{true, false, not, _&&_, _||_}
 use lib.ListN.{length, getD}
 use lib.Dec.{eqb, ltb}
@@ -94,6 +95,10 @@ pub record Hindered (m : Model) (plan state : List ℕ) (masks : Masks) (k dead 
   pub dead-bits : (a : ℕ) → bit dead a ≡ ((eqb a k || upstreamIn m plan k a) && not (liveGroup m plan state a))
   pub lost-bits : (a : ℕ) → bit lost a ≡ (upstreamIn m plan k a && deadEnd m plan state masks a)
 
+-- a counted move of group c names group a
+abbrev pub Names : Model → List ℕ → ℕ → ℕ → Type 0
+Names m plan c a = List·Memᴰ a (namedOutside m (groupsIn m plan) c (counted m plan c))
+
 -- for each group, the set of the other groups that its counted moves name
 pub record NamedBy (m : Model) (plan named : List ℕ) : Type 0 where
   pub bits : (k a : ℕ) → k < 32 → bit (getD named k 0) a ≡ any (eqb a) (namedOutside m (groupsIn m plan) k (counted m plan k))
@@ -105,6 +110,14 @@ pub record UpstreamSet (m : Model) (plan : List ℕ) (k s : ℕ) : Type 0 where
 -- s holds the groups that are upstream of one of some groups, all of them groups of the plan
 pub record UpstreamOfSome (m : Model) (plan : List ℕ) (groups s : ℕ) : Type 0 where
   pub bits : GroupsOnly m plan groups → (a : ℕ) → bit s a ≡ any (λ k. bit groups k && upstreamIn m plan k a) (upTo 32)
+
+-- The marks s of what is upstream of some groups, when a pass down the group numbers has been at number j.
+pub record MarkedFrom (m : Model) (plan : List ℕ) (groups j s : ℕ) : Type 0 where
+  -- from j up they are final
+  pub final : (a : ℕ) → j ≤ a → (bit s a ≡ true) ↔ ((b : ℕ) × (bit groups b ≡ true) × (upstreamIn m plan b a ≡ true))
+  -- below j so far those are marked that a group from j up names, if that is one of the groups or marked
+  pub so-far : (a : ℕ) → a < j → (bit s a ≡ true)
+      ↔ ((c : ℕ) × (j ≤ c) × (bit s c || bit groups c ≡ true) × Names m plan c a)
 
 -- of the modes of group k, s holds those that a goal allows
 pub record AllowedSet (m : Model) (plan : List ℕ) (masks : Masks) (k s : ℕ) : Type 0 where

@@ -4,29 +4,43 @@ use sheet::record::wide;
 ghost use mathlib.Core.Path.{_≡_};
 ghost use mathlib.Core.Bool.{true};
 ghost use mathlib.Core.List.{List};
-ghost use Prim.Native.Nat.{ℕ, _<_};
+ghost use Prim.Native.Nat.{ℕ, _≤_, _<_};
 ghost use lib.ListN.{length};
+ghost use Rattle.common.specs.Bits.{bit};
 ghost use Rattle.sheet.specs.Model.{Model};
 ghost use Rattle.sheet.specs.Valid.{Valid};
 ghost use Rattle.plan.specs.Groups.{groupCount};
 ghost use Rattle.plan.specs.Reading.{groupsIn, wellShaped};
-ghost use Rattle.command.specs.Question.{NamedBy, UpstreamSet, UpstreamOfSome};
+ghost use Rattle.command.specs.Question.{NamedBy, UpstreamSet, UpstreamOfSome, MarkedFrom};
 
-// The groups upstream of a group, by the groups that each names. Those have lower numbers, so one pass down is enough.
+// Goes on with the marks of a pass down the group numbers that has come to `top`: what a marked group or one of some groups names is
+// marked. A group names lower ones alone, so once the pass has been at a number, the marks from there up are final.
+fn pass(named: &[u64], groups: u64, marks: u64, top: usize) -> u64
+    requires { ⌜ (length (now named) ≡ 32) × (top ≤ 32) ⌝ }
+    ensures { λ r. ⌜ ((m : Model) (plan : List ℕ) (all : ℕ) → Valid m → wellShaped m plan ≡ true
+        → NamedBy m plan (now (named .entry)) → ((a : ℕ) → a < top → bit groups a ≡ bit all a)
+        → MarkedFrom m plan all top marks → MarkedFrom m plan all 0 r) ⌝ }
+{
+    let mut r = marks;
+    let mut left = top;
+    while 0 < left {
+        let j = left - 1;
+        if sets::has(sets::join(r, groups), j) {
+            r = sets::join(r, named[j]);
+        }
+        left -= 1;
+    }
+    r
+}
+
+// The groups upstream of a group: a pass that has been at it.
 pub fn upstream(named: &[u64], group: Group) -> u64
     requires { ⌜ (length (now named) ≡ 32) × (group .0 < 32) ⌝ }
     ensures { λ r. ⌜ ((m : Model) (plan : List ℕ) → Valid m → wellShaped m plan ≡ true
         → group .0 < groupCount (groupsIn m plan) → NamedBy m plan (now (named .entry)) → UpstreamSet m plan (group .0) r) ⌝ }
 {
-    let mut j = wide(group.0);
-    let mut r = named[j];
-    while 0 < j {
-        j -= 1;
-        if sets::has(r, j) {
-            r = sets::join(r, named[j]);
-        }
-    }
-    r
+    let k = wide(group.0);
+    pass(named, 0, named[k], k)
 }
 
 // The groups upstream of some of these groups.
@@ -35,13 +49,5 @@ pub fn upstream_of(named: &[u64], groups: u64) -> u64
     ensures { λ r. ⌜ ((m : Model) (plan : List ℕ) → Valid m → wellShaped m plan ≡ true
         → NamedBy m plan (now (named .entry)) → UpstreamOfSome m plan groups r) ⌝ }
 {
-    let mut j: usize = 32;
-    let mut r: u64 = 0;
-    while 0 < j {
-        j -= 1;
-        if sets::has(sets::join(r, groups), j) {
-            r = sets::join(r, named[j]);
-        }
-    }
-    r
+    pass(named, groups, 0, 32)
 }
