@@ -38,7 +38,7 @@ const FIRST: Recording = Recording {
 const LATEST: Recording = Recording {
     setting: "DUTY_TICKET_VECTORS",
     folder: "ticket-vectors",
-    file: "L3.txt",
+    file: "L4.txt",
     moves: true,
 };
 

@@ -176,15 +176,20 @@ module _ (m : Model) (valid : Valid m) (plan : List ℕ) (shaped : wellShaped m 
                 );
               }
 
--- The same as the code keeps it, over the sets of what each group names, in a pass that goes on from the marks at top
+-- from the marks at top the pass has come to marks s at number j, for each sheet and plan whose groups name each other so
+abbrev pub Goes : (named : List ℕ) (groups marks top j s : ℕ) → Type 0
+Goes named groups marks top j s =
+    (m : Model) (plan : List ℕ) (all : ℕ) → Valid m → wellShaped m plan ≡ true → NamedBy m plan named
+    → ((a : ℕ) → a < top → bit groups a ≡ bit all a) → MarkedFrom m plan all top marks → MarkedFrom m plan all j s
+
+-- as the loop keeps it
 pub record Pass (named : List ℕ) (groups marks top j s : ℕ) : Type 0 where
   pub few : j ≤ top
-  pub kept : (m : Model) (plan : List ℕ) (all : ℕ) → Valid m → wellShaped m plan ≡ true → NamedBy m plan named
-      → ((a : ℕ) → a < top → bit groups a ≡ bit all a) → MarkedFrom m plan all top marks → MarkedFrom m plan all j s
+  pub goes : Goes named groups marks top j s
 
 module _ {named : List ℕ} {groups marks top : ℕ} where
   pub pass-start : Pass named groups marks top top marks
-  pass-start = record { few = omega arith; kept = λ m plan all valid shaped by same k. k }
+  pass-start = record { few = omega arith; goes = λ m plan all valid shaped by same k. k }
 
   module _ (most : top ≤ 32) {j s : ℕ} (p : Pass named groups marks top j s) (some : 0 < j) where
     next : (t : ℕ) → ((a : ℕ) → bit t a ≡ (bit s a || (bit (union s groups) (j - 1) && bit (getD named (j - 1) 0) a)))
@@ -192,8 +197,8 @@ module _ {named : List ℕ} {groups marks top : ℕ} where
     next t bits =
         record {
           few = omega (arith, p .few);
-          kept = λ m plan all valid shaped by same k.
-              marked-next m valid plan shaped all (p .kept m plan all valid shaped by same k) some by
+          goes = λ m plan all valid shaped by same k.
+              marked-next m valid plan shaped all (p .goes m plan all valid shaped by same k) some by
               (omega (arith, p .few)) t
               (rw (bit-union, same (j - 1) (omega (arith, p .few))) at bits);
         }
@@ -205,54 +210,64 @@ module _ {named : List ℕ} {groups marks top : ℕ} where
     pass-next {t} e f (inl (h, g)) = next t (λ a. rw (g, bit-union, ← e, sym f ∙ h))
     pass-next {t} e f (inr (h, g)) = next t (λ a. rw (g, ← e, sym f ∙ h, or-false))
 
-  pub pass-end : {j s : ℕ} → Pass named groups marks top j s → j ≤ 0 → (m : Model) (plan : List ℕ) (all : ℕ)
-      → Valid m → wellShaped m plan ≡ true → NamedBy m plan named → ((a : ℕ) → a < top → bit groups a ≡ bit all a)
-      → MarkedFrom m plan all top marks → MarkedFrom m plan all 0 s
-  pass-end {j} p end m plan all valid shaped by same k =
-      let zero-there : j ≡ 0 = omega arith in
-      rw zero-there at (p .kept m plan all valid shaped by same k)
+  pub pass-end : {j s : ℕ} → Pass named groups marks top j s → j ≤ 0 → Goes named groups marks top 0 s
+  pass-end {j} p end = let zero-there : j ≡ 0 = omega arith in rw zero-there at (p .goes)
 
-module _ (m : Model) (valid : Valid m) (plan : List ℕ) (shaped : wellShaped m plan ≡ true) where
-  -- the marks of some groups, at the end
-  pub some-end : {groups s : ℕ} → MarkedFrom m plan groups 0 s → UpstreamOfSome m plan groups s
-  some-end {groups} told =
-      record {
-        bits = λ only a.
-            bool-ext
-            (λ t.
-            let (b, of, u) = told .final a zero-le .0 t in
-            let below = upstream-count m valid plan shaped b a u in
-            let few : b < 32 = omega (arith, few-groups m valid plan shaped) in
-            any-intro (λ k. bit groups k && upstreamIn m plan k a) {x = b} (upTo-mem {i = b} few)
-            (and-intro {a = bit groups b} {b = upstreamIn m plan b a} of u))
-            (λ t.
-            let (b, b-in, both) = any-some _ (upTo 32) t in
-            told .final a zero-le .1 (b, and-left _ _ both, and-right (bit groups b) _ both));
-      }
+-- A pass from the highest number: what is upstream of some groups
+pub some-end : {named : List ℕ} {groups s : ℕ} → Goes named groups 0 32 0 s → (m : Model) (plan : List ℕ) → Valid m
+    → wellShaped m plan ≡ true → NamedBy m plan named → UpstreamOfSome m plan groups s
+some-end {named} {groups} {s} goes m plan valid shaped by =
+    record {
+      bits = λ only a.
+          bool-ext
+          (λ t.
+          let (b, of, u) = told .final a zero-le .0 t in
+          let below = upstream-count m valid plan shaped b a u in
+          let few : b < 32 = omega (arith, few-groups m valid plan shaped) in
+          any-intro (λ k. bit groups k && upstreamIn m plan k a) {x = b} (upTo-mem {i = b} few)
+          (and-intro {a = bit groups b} {b = upstreamIn m plan b a} of u))
+          (λ t.
+          let (b, b-in, both) = any-some _ (upTo 32) t in
+          told .final a zero-le .1 (b, and-left _ _ both, and-right (bit groups b) _ both));
+    }
+  where
+    told : MarkedFrom m plan groups 0 s
+    told =
+        goes m plan groups valid shaped by (λ a h. refl)
+        (marked-none m valid plan shaped groups (λ k t h. omega (arith, few-groups m valid plan shaped)))
 
-  -- the marks of group k: those that it names, when the pass has been at it
-  module _ {k : ℕ} where
-    own : (b : ℕ) → bit (alone k) b ≡ true → k ≡ b
-    own b t = eqb-true k b (sym (bit-alone k b) ∙ t)
+-- A pass that has been at group k: what is upstream of it
+module _ (k : ℕ) where
+  own : (b : ℕ) → bit (alone k) b ≡ true → k ≡ b
+  own b t = eqb-true k b (sym (bit-alone k b) ∙ t)
 
-    pub one-start : {named : List ℕ} → NamedBy m plan named → k < 32 → MarkedFrom m plan (alone k) k (getD named k 0)
+  itself : bit (alone k) k ≡ true
+  itself = bit-alone k k ∙ eq-eqb k k refl
+
+  module _ (m : Model) (valid : Valid m) (plan : List ℕ) (shaped : wellShaped m plan ≡ true) where
+    -- what the group names is marked then
+    one-start : {named : List ℕ} → NamedBy m plan named → k < 32 → MarkedFrom m plan (alone k) k (getD named k 0)
     one-start {named} by few =
         let last : suc k - 1 ≡ k = omega arith in
         rw last at
         (marked-next m valid plan shaped (alone k) {j = suc k}
         (marked-none m valid plan shaped (alone k) (λ b t h. let e = own b t in omega arith)) (omega arith) by (omega arith)
         (getD named k 0)
-        (λ a. rw (last, bit-none a, or-right (bit 0 k) (bit-alone k k ∙ eq-eqb k k refl))))
+        (λ a. rw (last, bit-none a, or-right (bit 0 k) itself)))
 
-    pub one-rest : (a : ℕ) → a < k → bit 0 a ≡ bit (alone k) a
-    one-rest a h = bit-none a ∙ sym (bit-alone k a ∙ ne-eqb k a (omega arith))
-
-    pub one-end : {g s : ℕ} → k ≡ g → MarkedFrom m plan (alone k) 0 s → UpstreamSet m plan g s
-    one-end same told =
-        record {
-          bits = λ a.
-              rw (← same)
-              (bool-ext
-              (λ t. let (b, of, u) = told .final a zero-le .0 t in rw (own b of) u)
-              (λ u. told .final a zero-le .1 (k, bit-alone k k ∙ eq-eqb k k refl, u)));
-        }
+pub one-end : {named : List ℕ} {k g s : ℕ} → k ≡ g → g < 32 → Goes named 0 (getD named k 0) k 0 s
+    → (m : Model) (plan : List ℕ) → Valid m → wellShaped m plan ≡ true → g < groupCount (groupsIn m plan)
+    → NamedBy m plan named → UpstreamSet m plan g s
+one-end {named} {k} {g} {s} same few goes m plan valid shaped there by =
+    record {
+      bits = λ a.
+          rw (← same)
+          (bool-ext
+          (λ t. let (b, of, u) = told .final a zero-le .0 t in rw (own k b of) u)
+          (λ u. told .final a zero-le .1 (k, itself k, u)));
+    }
+  where
+    told : MarkedFrom m plan (alone k) 0 s
+    told =
+        goes m plan (alone k) valid shaped by (λ a h. bit-none a ∙ sym (bit-alone k a ∙ ne-eqb k a (omega arith)))
+        (one-start k m valid plan shaped by (omega arith))

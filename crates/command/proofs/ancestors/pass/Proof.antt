@@ -1,3 +1,4 @@
+use Prim.Native.Nat.{_<_}
 use mathlib.Core.Path.{_∙_}
 use mathlib.Core.Logic.{inl, inr, ⊎-elim}
 use native.Mathlib.Omega.{arith}
@@ -48,7 +49,8 @@ loop-less c = search needs
 loop-again : tie.Need-loop-again Inv-loop μ-loop
 loop-again c =
     let turn = c .before .before .before .before in
-    pass-next (turn .before .before .pre .1) (turn .loop .inv) (c .before .before .before .loop-test .taken)
+    let some : 0 < turn .loop .left = omega (arith, c .before .before .before .loop-test .taken) in
+    pass-next (turn .before .before .pre .1) (turn .loop .inv) some
     (c .before .before .join .ensures) (c .before .has .ensures)
     (⊎-elim (λ w. inl (w .0 .taken, w .3 ∙ w .2 .ensures)) (λ w. inr (w .0 .left, w .1)) (c .if1 .came))
 

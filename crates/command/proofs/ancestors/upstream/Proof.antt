@@ -1,5 +1,4 @@
-use native.Mathlib.Omega.{arith}
-use Rattle.command.proofs.Marks.{one-start, one-rest, one-end}
+use Rattle.command.proofs.Marks.{one-end}
 use borrow.Author.Needs.{needs}
 use Rattle.command.proofs.ancestors.upstream.Statement.{statement}
 use Rattle.command.proofs.ancestors.upstream.Tie as tie
@@ -17,11 +16,7 @@ pass-requires : tie.Need-pass-requires
 pass-requires c κs = search needs
 
 returns : tie.Need-returns
-returns c = λ m plan valid shaped there by.
-    let number = c .before .before .wide .ensures .0 in
-    one-end m valid plan shaped number
-    (c .pass .ensures m plan _ valid shaped by (one-rest m valid plan shaped)
-    (one-start m valid plan shaped by (omega (arith, number, c .before .before .before .before .pre .1))))
+returns c = search one-end
 
 pub upstream-spec : {M : Type 1} → statement M
 upstream-spec =
