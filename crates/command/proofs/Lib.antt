@@ -33,6 +33,7 @@ pub mod Marks
 pub mod MaskLoop
 pub mod Meanings
 pub mod Moving
+pub mod Naming
 pub mod Near
 pub mod NearestLoop
 pub mod Opening

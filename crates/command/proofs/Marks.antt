@@ -1,10 +1,10 @@
 -- The pass down the group numbers that marks what is upstream of some groups. A group names lower ones alone, so once the
 -- pass has been at a number, the marks from there up are final.
 -- Assumes nothing.
-use Prim.Native.Nat.{ℕ, zero, suc, _+_, _-_, _≤_, _<_, zero-le}
+use Prim.Native.Nat.{ℕ, suc, _-_, _≤_, _<_, zero-le}
 use mathlib.Core.Path.{_≡_, refl, sym, _∙_}
 use mathlib.Core.Logic.{_↔_, _⊎_, inl, inr, ⊎-elim}
-use mathlib.Core.List.{List, List·Memᴰ, Memᴰ·cast}
+use mathlib.Core.List.{List, Memᴰ·cast}
 use mathlib.Core.Bool.{Bool, true, false, _&&_, _||_, or-false}
 use native.Mathlib.Nat.{eq-or-lt-of-le}
 use native.Mathlib.Omega.{arith}
@@ -13,8 +13,6 @@ use lib.Dec.{eqb}
 use lib.ListN.{getD}
 use Rattle.common.specs.Bits.{bit}
 use Rattle.common.specs.Lists.{upTo}
-use Rattle.common.specs.Graph.{Chain, here, step}
-use Rattle.common.proofs.Graph.{chain-zero}
 use Rattle.common.proofs.Bools.{true-false, bool-ext, and-intro, and-left, and-right}
 use Rattle.common.proofs.Bools.{or-left, or-right, or-cases}
 use Rattle.common.proofs.Lists.{any-intro, any-some}
@@ -23,54 +21,15 @@ use Rattle.sets.specs.Sets.{alone, union}
 use Rattle.sets.proofs.Laws.{bit-none, bit-alone, bit-union}
 use Rattle.sheet.specs.Model.{Model}
 use Rattle.sheet.specs.Valid.{Valid}
-use Rattle.plan.specs.Groups.{groupCount, namedOutside}
+use Rattle.plan.specs.Groups.{groupCount}
 use Rattle.plan.specs.Reading.{groupsIn, wellShaped}
-use Rattle.plan.specs.Laws.{counted}
-use Rattle.plan.proofs.Named.{named-by}
-use Rattle.plan.proofs.Counted.{counted-moves}
-use Rattle.command.specs.Ancestors.{groupGraph, upstreamIn}
+use Rattle.command.specs.Ancestors.{upstreamIn}
 use Rattle.command.specs.Question.{Names, NamedBy, UpstreamSet, UpstreamOfSome, MarkedFrom}
-use Rattle.command.proofs.Shape.{move-below, few-groups}
-use Rattle.command.proofs.Upstream.{groupGraph-names, upstream-chain, upstream-other, named-upstream}
+use Rattle.command.proofs.Shape.{few-groups}
+use Rattle.command.proofs.Naming.{names-count, names-upstream, names-below, upstream-named}
 use Rattle.command.proofs.Upstream.{upstream-below, upstream-count, upstream-trans}
 
 module _ (m : Model) (valid : Valid m) (plan : List ℕ) (shaped : wellShaped m plan ≡ true) where
-  names-count : (c a : ℕ) → Names m plan c a → c < groupCount (groupsIn m plan)
-  names-count c a l =
-      let by = named-by m (groupsIn m plan) c (counted m plan c) l in
-      move-below m valid plan shaped c (by .0) (counted-moves m plan c (by .1))
-
-  names-upstream : (c a : ℕ) → Names m plan c a → upstreamIn m plan c a ≡ true
-  names-upstream c a l = named-upstream m valid plan shaped c a l (names-count c a l)
-
-  names-below : (c a : ℕ) → Names m plan c a → a < c
-  names-below c a l = upstream-below m valid plan shaped c a (names-upstream c a l)
-
-  -- group c is b, or upstream of it
-  abbrev AtOrUpstream : ℕ → ℕ → Type 0
-  AtOrUpstream b c = (c ≡ b) ⊎ (upstreamIn m plan b c ≡ true)
-
-  chain-named : {d : ℕ} (b a : ℕ) → Chain (groupGraph m (groupsIn m plan) (counted m plan)) (suc d) b a
-      → (c : ℕ) × AtOrUpstream b c × Names m plan c a
-  chain-named b a (step n l here) = (b, inl refl, groupGraph-names m (groupsIn m plan) (counted m plan) b n l)
-  chain-named b a (step n l (step o h rest)) =
-      let (c, way, last) = chain-named n a (step o h rest) in
-      let up = names-upstream b n (groupGraph-names m (groupsIn m plan) (counted m plan) b n l) in
-      (c, inr (⊎-elim (λ e. rw e up) (λ u. upstream-trans m valid plan shaped b n c up u) way), last)
-
-  -- what is upstream of a group is named by it, or by one upstream of it
-  upstream-named : (b a : ℕ) → upstreamIn m plan b a ≡ true → (c : ℕ) × AtOrUpstream b c × Names m plan c a
-  upstream-named b a u =
-      let (d, chain) = upstream-chain m (groupsIn m plan) (counted m plan) b a u in
-      go d chain (upstream-other m (groupsIn m plan) (counted m plan) b a u)
-    where
-      go : (d : ℕ) → Chain (groupGraph m (groupsIn m plan) (counted m plan)) d b a → (a ≡ b → ⊥)
-          → (c : ℕ) × AtOrUpstream b c × Names m plan c a
-      go zero chain n = absurd (n (sym (chain-zero chain)))
-      go (suc d) chain n = chain-named b a chain
-
-  -- The pass
-
   module _ (groups : ℕ) where
     -- nothing is marked before it
     pub marked-none : {top : ℕ} → ((k : ℕ) → bit groups k ≡ true → k < groupCount (groupsIn m plan) → k < top)
@@ -88,7 +47,7 @@ module _ (m : Model) (valid : Valid m) (plan : List ℕ) (shaped : wellShaped m 
             λ (c, l, on, names).
                 ⊎-elim
                 (λ e. absurd (true-false e (bit-none c)))
-                (λ of. let k = low c of (names-count c a names) in absurd (let f : ⊥ = omega arith in f))
+                (λ of. let k = low c of (names-count m valid plan shaped c a names) in absurd (let f : ⊥ = omega arith in f))
                 (or-cases (bit 0 c) (bit groups c) on),
           );
         }
@@ -102,14 +61,14 @@ module _ (m : Model) (valid : Valid m) (plan : List ℕ) (shaped : wellShaped m 
       next-final = (
         λ t.
             let (c, h, on, names) = k .so-far i (omega arith) .0 t in
-            let up = names-upstream c i names in
+            let up = names-upstream m valid plan shaped c i names in
             ⊎-elim
             (λ e. let (b, of, u) = k .final c h .0 e in (b, of, upstream-trans m valid plan shaped b c i u up))
             (λ of. (c, of, up))
             (or-cases (bit s c) (bit groups c) on),
         λ (b, of, u).
-            let (c, way, names) = upstream-named b i u in
-            let low = names-below c i names in
+            let (c, way, names) = upstream-named m valid plan shaped b i u in
+            let low = names-below m valid plan shaped c i names in
             let h : j ≤ c = omega arith in
             let on = ⊎-elim
             (λ e. or-right (bit s c) (rw e of))
@@ -137,7 +96,7 @@ module _ (m : Model) (valid : Valid m) (plan : List ℕ) (shaped : wellShaped m 
               ⊎-elim
               (λ e. e)
               (λ e.
-              let low = names-below i a (named-bit a .0 (and-right (bit s i || bit groups i) _ e)) in
+              let low = names-below m valid plan shaped i a (named-bit a .0 (and-right (bit s i || bit groups i) _ e)) in
               absurd (let f : ⊥ = omega arith in f))
               (or-cases (bit s a) _ t))
               (λ e. or-left _ e)
