@@ -1,6 +1,6 @@
 -- What applying a command answers and leaves, by the move that is found: none, or one that answers.
 -- Assumes nothing.
-use Prim.Native.Nat.{ℕ, _-_, _<_}
+use Prim.Native.Nat.{ℕ, _-_, _*_, _<_}
 use mathlib.Core.Path.{_≡_, sym, ap, _∙_}
 use mathlib.Core.Logic.{⊎-elim}
 use mathlib.Core.List.{List}
@@ -50,10 +50,14 @@ module _ {file : List ℕ} {x : Sheet} {m : Model} (i : Indexes file x m) (state
     pub acted-place : {w : ℕ} → w ≡ v → w < x .moves
     acted-place q = omega (arith, acted-answers .there, indexes-moves i)
 
-    pub acted-within : clear (stateFaults m state) ≡ true → machine < length state
+    pub acted-within : clear (stateFaults m state) ≡ true → 2 * machine < length state
     acted-within h =
-        rw (sound-state m state h .long, ← acted-answers .its-machine)
-        (indexes-valid i .moves-valid v (acted-answers .there) .present)
+        omega (
+          arith,
+          sound-state m state h .long,
+          acted-answers .its-machine,
+          indexes-valid i .moves-valid v (acted-answers .there) .present,
+        )
 
     pub acted-some :
         given (record { changed = true; move = v }) ≡ effectReply (given (appliedBy m state machine command))

@@ -17,11 +17,11 @@ use Rattle.common.proofs.Members.{upTo-mem}
 use Rattle.common.proofs.Search.{find-upTo-is, find-upTo-none}
 use Rattle.sheet.specs.declared.index.Sheet.{Sheet}
 use Rattle.sheet.specs.Record.{byte, bodyAt}
-use Rattle.sheet.specs.Model.{Guard, Model, moveOf}
+use Rattle.sheet.specs.Model.{Guard, Model, moveOf, moveAt}
 use Rattle.sheet.specs.Index.{Indexes}
 use Rattle.sheet.proofs.Indexed.{indexes-moves, indexes-body}
 use Rattle.plan.proofs.MoveTurns.{turn-present, turn-move}
-use Rattle.command.specs.State.{modeOf}
+use Rattle.command.specs.State.{modeOf, tagOf}
 use Rattle.command.specs.Apply.{acts, actingMove}
 
 -- a need holds in a state
@@ -107,6 +107,21 @@ module _ (state body : List ℕ) (machine mode command : ℕ) where
 pub record Unanswered (m : Model) (state : List ℕ) (machine command v : ℕ) : Type 0 where
   pub none : (j : ℕ) → j < v → acts m state machine command j ≡ false
 
+-- all that a move must be to answer, but for the tag
+abbrev answers-of : Model → List ℕ → ℕ → ℕ → ℕ → Bool
+answers-of m state machine command v =
+    eqb (moveAt m v .machine) machine && eqb (moveAt m v .from) (modeOf state machine)
+    && eqb (moveAt m v .command) command && all (holds state) (moveAt m v .guards)
+
+-- a tagged machine obeys no command
+pub unanswered-tagged : (m : Model) (state : List ℕ) (machine command : ℕ) {tag : ℕ} → tag ≡ tagOf state machine
+    → (tag ≡ 0 → ⊥) → 255 ≡ actingMove m state machine command
+unfolding actingMove acts
+unanswered-tagged m state machine command e n =
+    sym
+    (find-upTo-none (acts m state machine command) 255 (λ j l.
+    and-false-right (answers-of m state machine command j) (ne-eqb (tagOf state machine) 0 (λ z. n (e ∙ z)))))
+
 pub unanswered-none : (m : Model) (state : List ℕ) (machine command : ℕ) → Unanswered m state machine command 0
 unanswered-none m state machine command = record { none = below-none (λ j. acts m state machine command j ≡ false) }
 
@@ -115,12 +130,12 @@ pub turn-head : {s : List ℕ} {x : Sheet} {m : Model} → Indexes s x m → {v 
 turn-head i {v} h e = rw e (indexes-body i v (turn-present i h) .long)
 
 module _ {s state : List ℕ} {x : Sheet} {machine command : ℕ} {m : Model} (i : Indexes s x m) where
-  module _ {mode v : ℕ} {body : List ℕ} {r : Bool} (e : mode ≡ modeOf state machine)
+  module _ {mode v : ℕ} {body : List ℕ} {r : Bool} (free : tagOf state machine ≡ 0) (e : mode ≡ modeOf state machine)
       (u : Unanswered m state machine command v) (h : v < x .moves) (b : body ≡ bodyAt s (getD (x .bodies) v 0 - 4))
       (a : r ≡ answering state body machine mode command) where
     acts-here : acts m state machine command v ≡ r
     unfolding acts
-    acts-here = sym (rw (turn-move i h b, e) at a)
+    acts-here = sym (rw (turn-move i h b, e) at a ∙ rw free (sym (and-true _)))
 
     pub unanswered-next : r ≡ false → Unanswered m state machine command (v + 1)
     unanswered-next f =

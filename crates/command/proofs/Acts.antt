@@ -7,7 +7,8 @@ use mathlib.Core.Bool.{Bool, true, _&&_}
 use native.Mathlib.Omega.{arith}
 use borrow.Author.Tests.{eqb-true, eq-eqb, ne-eqb}
 use lib.Dec.{eqb}
-use Rattle.common.specs.Lists.{upTo, any}
+use Rattle.common.specs.Bits.{bit}
+use Rattle.common.specs.Lists.{upTo, all, any}
 use Rattle.common.specs.Reply.{given, andThen}
 use Rattle.common.proofs.Bools.{by-cases, and-intro, and-left, and-right}
 use Rattle.common.proofs.Lists.{all-at, all-intro, any-intro}
@@ -18,10 +19,10 @@ use Rattle.common.proofs.When.{when-known, unless-known}
 use Rattle.sheet.specs.Model.{Model, modeCount, isLive, moveCount, moveAt}
 use Rattle.sheet.specs.Valid.{Valid, ValidMove}
 use Rattle.sheet.specs.Parse.{Parsed, parse}
-use Rattle.plan.specs.Groups.{Grouping, groupOf, movesOf}
+use Rattle.plan.specs.Groups.{Grouping, groupOf, members, movesOf}
 use Rattle.plan.specs.Usable.{leads, landing}
 use Rattle.plan.specs.Reading.{groupsIn, wellShaped}
-use Rattle.command.specs.State.{modeOf, withMode}
+use Rattle.command.specs.State.{modeOf, tagOf, withMode}
 use Rattle.command.specs.Attainable.{present, liveGroup}
 use Rattle.command.specs.Next.{holdsInside, holdsOutside}
 use Rattle.command.specs.Apply.{acts, Answers, actingMove, stateBy, applyReply}
@@ -39,12 +40,16 @@ module _ (m : Model) (state : List ℕ) (i c v : ℕ) where
       let by-machine : Bool = eqb (moveAt m v .machine) i in
       let by-mode : Bool = by-machine && eqb (moveAt m v .from) (modeOf state i) in
       let by-byte : Bool = by-mode && eqb (moveAt m v .command) c in
+      let by-needs : Bool =
+      by-byte && all (λ g. bit (g .mask) (modeOf state (g .machine))) (moveAt m v .guards) in
+      let fits = and-left by-needs _ h in
       record {
         there = there;
-        its-machine = eqb-true _ _ (and-left _ _ (and-left _ _ (and-left _ _ h)));
-        its-from = eqb-true _ _ (and-right by-machine _ (and-left _ _ (and-left _ _ h)));
-        its-byte = eqb-true _ _ (and-right by-mode _ (and-left _ _ h));
-        its-needs = λ g l. all-at _ (and-right by-byte _ h) l;
+        its-machine = eqb-true _ _ (and-left _ _ (and-left _ _ (and-left _ _ fits)));
+        its-from = eqb-true _ _ (and-right by-machine _ (and-left _ _ (and-left _ _ fits)));
+        its-byte = eqb-true _ _ (and-right by-mode _ (and-left _ _ fits));
+        its-needs = λ g l. all-at _ (and-right by-byte _ fits) l;
+        no-tag = eqb-true _ _ (and-right by-needs _ h);
       }
 
   pub answers-acts : Answers m state i c v → acts m state i c v ≡ true
@@ -52,9 +57,18 @@ module _ (m : Model) (state : List ℕ) (i c v : ℕ) where
   answers-acts a =
       and-intro
       (and-intro
+      (and-intro
       (and-intro (eq-eqb _ _ (a .its-machine)) (eq-eqb _ _ (a .its-from)))
       (eq-eqb _ _ (a .its-byte)))
-      (all-intro _ (moveAt m v .guards) (a .its-needs))
+      (all-intro _ (moveAt m v .guards) (a .its-needs)))
+      (eq-eqb _ _ (a .no-tag))
+
+-- no machine of a live group is tagged
+pub live-untagged : (m : Model) (plan state : List ℕ) (k i : ℕ) → liveGroup m plan state k ≡ true
+    → List·Memᴰ i (members (groupsIn m plan) k) → tagOf state i ≡ 0
+unfolding liveGroup
+live-untagged m plan state k i live l =
+    eqb-true _ _ (and-right (isLive m i (modeOf state i)) _ (all-at _ live l))
 
 -- no two moves answer a command
 pub answers-same : (m : Model) → Valid m → (state : List ℕ) (i c : ℕ) {v w : ℕ} → Answers m state i c v
@@ -123,7 +137,8 @@ module _ (m : Model) (valid : Valid m) (plan : List ℕ) (shaped : wellShaped m 
             (moves-group m (groupsIn m plan) k member))
 
         -- the command acts, by this move and no other
-        module _ (outside : holdsOutside m plan state k (moveAt m v) ≡ true) where
+        module _ (outside : holdsOutside m plan state k (moveAt m v) ≡ true)
+            (live : liveGroup m plan state k ≡ true) where
           pub move-answers : Answers m state (moveAt m v .machine) (moveAt m v .command) v
           unfolding holdsInside holdsOutside
           move-answers =
@@ -135,6 +150,8 @@ module _ (m : Model) (valid : Valid m) (plan : List ℕ) (shaped : wellShaped m 
                 its-needs = λ g l. by-cases (eqb (groupOf own (g .machine)) k)
                     (λ t. when-known t (all-at _ leading-inside l))
                     (λ f. unless-known f (all-at _ outside l));
+                no-tag = live-untagged m plan state k machine live
+                    (mover-member m valid own (groups-length m valid plan shaped) k member);
               }
 
           pub acting-is : actingMove m state (moveAt m v .machine) (moveAt m v .command) ≡ v

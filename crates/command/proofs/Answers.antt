@@ -11,7 +11,7 @@ use borrow.Author.Tests.{lt-ltb}
 use Rattle.common.specs.Reply.{given, clear}
 use Rattle.common.proofs.Bools.{true-false}
 use Rattle.common.proofs.Clear.{each-clear}
-use Rattle.sheet.specs.Model.{moveAt}
+use Rattle.sheet.specs.Model.{machineCount, moveAt}
 use Rattle.sheet.specs.Valid.{Valid}
 use Rattle.sheet.specs.Parse.{Parsed, parse}
 use Rattle.plan.specs.Reading.{boundIn}
@@ -150,6 +150,7 @@ module _ {lent : Lent} {d : Parsed} {Usable : ℕ → Type 0} {longest cost : �
           answered = ⊎-elim (λ r. (done, r .0)) (λ r. (command (r .0) (r .1), r .2)) answer;
           done-exactly = (done-reached, reached-done);
           finds-needs = λ i c e. answers-now (replied i c e);
+          untagged = λ i c e. answers-now (replied i c e) .1 .no-tag;
           within-bound = λ i c e. Kept.sent-within (ground .valid) (ground .laws) kept (replied i c e .sent);
         }
 
@@ -187,8 +188,8 @@ module _ {lent : Lent} {d : Parsed} {Usable : ℕ → Type 0} {longest cost : �
           applies = applies-pending p;
           was = ap (modeOf (s .state)) (p .machine-is) ∙ from;
           is-now =
-              mode-there (s .state) i _
-              (omega (arith, p .machine-is, kept .sound .long, ground .valid .moves-valid (p .move) here .present));
+              mode-there (s .state) i _ (machineCount (d .model)) (kept .sound .long)
+              (omega (arith, p .machine-is, ground .valid .moves-valid (p .move) here .present));
           differs = ground .valid .moves-valid (p .move) here .moves-on;
           tells =
               ap effectReply (applies-pending p)

@@ -16,15 +16,15 @@ use Rattle.common.proofs.Members.{upTo-mem, upTo-below}
 use Rattle.common.proofs.Search.{find-holds, find-mem, find-none}
 use Rattle.common.proofs.Reply.{unless-clear}
 use Rattle.common.proofs.Clear.{clear-each}
-use Rattle.sheet.specs.Model.{Model, moveCount, moveAt}
+use Rattle.sheet.specs.Model.{Model, machineCount, moveCount, moveAt}
 use Rattle.sheet.specs.Valid.{Valid}
 use Rattle.sheet.specs.Parse.{Parsed, parse}
 use Rattle.sheet.proofs.Parsed.{parse-valid}
-use Rattle.command.specs.State.{modeOf, withMode, stateFaults}
+use Rattle.command.specs.State.{modeOf, tagOf, withMode, stateFaults}
 use Rattle.command.specs.Apply.{Answers, Applied, Effect, acts, actingMove, stateBy, appliedBy, effectOf, effectReply, applyReply}
 use Rattle.command.specs.Applying.{EffectRight, ApplyRight, AppliesRight, StateLeft}
 use Rattle.command.proofs.Shape.{Sound, sound-state}
-use Rattle.command.proofs.States.{mode-there, mode-elsewhere}
+use Rattle.command.proofs.States.{mode-there, mode-elsewhere, tag-kept}
 use Rattle.command.proofs.Acts.{acts-answers, answers-acts, answers-same, acting-only}
 
 module _ (m : Model) (state : List ℕ) (machine command : ℕ) where
@@ -53,8 +53,8 @@ module _ (m : Model) (state : List ℕ) (machine command : ℕ) where
 
     answer-there : Sound m state → modeOf (withMode state machine (moveAt m v .to)) machine ≡ moveAt m v .to
     answer-there sound =
-        mode-there state machine (moveAt m v .to)
-        (rw (sound .long, ← answer .its-machine) (valid .moves-valid v (answer .there) .present))
+        mode-there state machine (moveAt m v .to) (machineCount m) (sound .long)
+        (rw (← answer .its-machine) (valid .moves-valid v (answer .there) .present))
 
     -- a move leads to another mode than it starts from
     answer-changes : Sound m state → stateBy m state machine command ≡ state → ⊥
@@ -137,6 +137,21 @@ module _ (sheet state : List ℕ) (machine command : ℕ) (d : Parsed) (parses :
       })
       (found-or-none m state machine command)
 
+  idle : ((v : ℕ) → Answers m state machine command v → ⊥)
+      → applyReply sheet state machine command ≡ given (record { move = 255; state = state })
+  idle none =
+      ⊎-elim
+      (λ f. absurd (none _ f))
+      (λ f. apply-given ∙ rw (none-moves m state machine command (f .0), f .0))
+      (found-or-none m state machine command)
+
+  tag-stays : (i : ℕ) → tagOf (stateBy m state machine command) i ≡ tagOf state i
+  tag-stays i =
+      ⊎-elim
+      (λ f. rw (answer-moves m state machine command valid f) (tag-kept state machine _ i))
+      (λ f. rw (none-moves m state machine command (f .0)))
+      (found-or-none m state machine command)
+
   apply-right : ApplyRight (d .model) sheet state machine command
   apply-right =
       record {
@@ -148,11 +163,9 @@ module _ (sheet state : List ℕ) (machine command : ℕ) (d : Parsed) (parses :
               (answer-there m state machine command valid answer sound),
         );
         others = λ i a e n. ap (λ x. modeOf (x .state) i) (gives e) ∙ other-stays i n;
-        idle = λ none.
-            ⊎-elim
-            (λ f. absurd (none _ f))
-            (λ f. apply-given ∙ rw (none-moves m state machine command (f .0), f .0))
-            (found-or-none m state machine command);
+        tags = λ i a e. ap (λ x. tagOf (x .state) i) (gives e) ∙ tag-stays i;
+        tagged = λ n. idle (λ v a. n (a .no-tag));
+        idle = idle;
         told = λ e h.
             rw apply-given (subst (EffectRight m state (stateBy m state machine command) machine command) (tells e h) effect-right);
       }

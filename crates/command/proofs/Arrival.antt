@@ -10,6 +10,7 @@ use Rattle.sheet.specs.Valid.{Valid}
 use Rattle.sheet.specs.Parse.{Parsed, parse}
 use Rattle.plan.specs.Reading.{boundIn}
 use Rattle.plan.specs.Laws.{PlanLaws}
+use Rattle.command.specs.State.{tagOf}
 use Rattle.command.specs.Next.{goalRefusals}
 use Rattle.command.specs.Run.{Lent, Call, ask, apply, Situation, begins, afterAll, Run}
 use Rattle.sheet.proofs.Parsed.{parse-valid}
@@ -67,9 +68,20 @@ module _ {lent : Lent} {d : Parsed} {Usable : ℕ → Type 0} {longest cost : �
       subst (λ s. AsWishedFrom lent (d .model) (s .state) g)
       (sym (afterAll-append lent (begins state) before between)) (r .0 .wished g w)
 
+  tags-stay : (before later : List Call) → calls ≡ before ++ later → (i : ℕ)
+      → tagOf (now before .state) i ≡ tagOf state i
+  tags-stay before later e i = through before later e .0 .same-tags i
+
   pub promised : Promise lent (d .model) (begins state) calls
   promised =
-      record { asking = asking; applying = applying; within = within; arrives = arrives; stays = stays }
+      record {
+        asking = asking;
+        applying = applying;
+        within = within;
+        arrives = arrives;
+        stays = stays;
+        tags-stay = tags-stay;
+      }
 
 pub arrival-of-laws :
     (lent : Lent) (state : List ℕ) (d : Parsed) (Usable : ℕ → Type 0) (longest cost : ℕ → ℕ)

@@ -7,12 +7,13 @@ use native.Mathlib.Omega.{arith}
 use Rattle.common.specs.Reply.{Reply, given, refused}
 use Rattle.sheet.specs.Model.{Model, moveAt}
 use Rattle.sheet.specs.Parse.{Parsed}
-use Rattle.command.specs.State.{withMode}
+use Rattle.command.specs.State.{tagOf, withMode}
 use Rattle.command.specs.Next.{Next, done, command}
 use Rattle.command.specs.Apply.{Applied, applyReply, stateAfter}
 use Rattle.command.specs.Run.{Lent, askReply, Call, ask, apply, refusedNext, refusedApply, Pending, none, some, Situation}
 use Rattle.command.specs.Run.{pendingOf, IsRefused, IsPending, appliedBy, after, afterAll, Legal, Run}
 use Rattle.command.specs.Arrival.{AsWishedFrom}
+use Rattle.command.proofs.States.{tag-kept}
 use Rattle.command.proofs.Kept
 use Rattle.command.proofs.Kept.{Pends, Kept, movedBy}
 use Rattle.command.proofs.Answers
@@ -55,11 +56,13 @@ unfolding afterAll
 afterAll-append lent s [] ys = refl
 afterAll-append lent s (c ∷ xs) ys = afterAll-append lent (after lent s c) xs ys
 
--- from one situation to another: what a run keeps is kept, and all groups from g upward that were as wished are so
+-- from one situation to another: what a run keeps is kept, all groups from g upward that were as wished are so, and no tag
+-- is another
 module _ (m : Model) (lent : Lent) (Usable : ℕ → Type 0) (cost : ℕ → ℕ) where
   pub record Keeps (s t : Situation) : Type 0 where
     pub kept : Kept m lent Usable cost t
     pub wished : (g : ℕ) → AsWishedFrom lent m (s .state) g → AsWishedFrom lent m (t .state) g
+    pub same-tags : (i : ℕ) → tagOf (t .state) i ≡ tagOf (s .state) i
 
 module _ {lent : Lent} {d : Parsed} {Usable : ℕ → Type 0} {longest cost : ℕ → ℕ}
     (ground : Ground lent d Usable longest cost) where
@@ -82,6 +85,7 @@ module _ {lent : Lent} {d : Parsed} {Usable : ℕ → Type 0} {longest cost : �
       (record {
         kept = Kept.kept-moved (ground .valid) (ground .laws) kept (p .sent);
         wished = Kept.stays-wished (ground .valid) (ground .laws) kept (p .sent);
+        same-tags = tag-kept (s .state) _ _;
       })
 
   keeps-call : (s : Situation) → Kept (d .model) lent Usable cost s → (c : Call) → Legal lent s c
@@ -98,21 +102,28 @@ module _ {lent : Lent} {d : Parsed} {Usable : ℕ → Type 0} {longest cost : �
                   (pending-replied (askReply lent (s .state)) e);
             };
         wished = λ g w. w;
+        same-tags = λ i. refl;
       }
   keeps-call s kept apply h =
       let p = pending-some (s .pending) h in
       keeps-apply s kept (p .0) (p .1) (p .2)
-  keeps-call s kept (refusedNext other) h = record { kept = kept; wished = λ g w. w }
+  keeps-call s kept (refusedNext other) h = record { kept = kept; wished = λ g w. w; same-tags = λ i. refl }
   keeps-call s kept (refusedApply sheet i c) h =
-      subst (KeepsTo s) (sym (after-refused lent s sheet i c h)) (record { kept = kept; wished = λ g w. w })
+      subst (KeepsTo s) (sym (after-refused lent s sheet i c h)) (record { kept = kept; wished = λ g w. w; same-tags = λ i. refl })
 
   -- through the first calls of a run; the others are a run from there
   pub keeps-all : {s : Situation} → Kept (d .model) lent Usable cost s → (before later : List Call)
       → Run lent s (before ++ later)
       → KeepsTo s (afterAll lent s before) × Run lent (afterAll lent s before) later
   unfolding afterAll
-  keeps-all kept [] later run = (record { kept = kept; wished = λ g w. w }, run)
+  keeps-all kept [] later run = (record { kept = kept; wished = λ g w. w; same-tags = λ i. refl }, run)
   keeps-all {s} kept (c ∷ before) later run =
       let one = keeps-call s kept c (run .0) in
-      let r = keeps-all (one .kept) before later (run .1) in
-      (record { kept = r .0 .kept; wished = λ g w. r .0 .wished g (one .wished g w) }, r .1)
+      let r = keeps-all (one .kept) before later (run .1) in (
+        record {
+          kept = r .0 .kept;
+          wished = λ g w. r .0 .wished g (one .wished g w);
+          same-tags = λ i. r .0 .same-tags i ∙ one .same-tags i;
+        },
+        r .1,
+      )

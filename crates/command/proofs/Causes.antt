@@ -1,7 +1,7 @@
 -- The causes 16, 17 and 18 of one group: where each stands, and which of them refuses.
 -- Assumes nothing.
 use Prim.Native.Nat.{ℕ, _<_}
-use mathlib.Core.Path.{_≡_, refl, _∙_}
+use mathlib.Core.Path.{_≡_, refl, sym, _∙_}
 use mathlib.Core.Logic.{inl, inr, ⊎-elim}
 use mathlib.Core.List.{List}
 use mathlib.Core.Bool.{Bool, true, false, not, _&&_, _||_}
@@ -10,25 +10,26 @@ use lib.Dec.{eqb}
 use Rattle.common.specs.Reply.{Reply, refused, Fault, clear, unless}
 use Rattle.common.proofs.Bools.{by-cases, true-false, and-left, and-right, or-left, or-right, or-cases}
 use Rattle.common.proofs.Bools.{not-of-true, not-of-false}
+use Rattle.common.proofs.Lists.{all-at}
 use Rattle.common.proofs.Reply.{unless-first, unless-later}
-use Rattle.common.proofs.Clear.{clear-each, each-clear}
+use Rattle.common.proofs.Clear.{clear-each, each-clear, clear-flatMap}
 use Rattle.common.proofs.When.{and-known, and-when-false}
 use Rattle.sheet.specs.Model.{Model}
 use Rattle.sheet.specs.Valid.{Valid}
 use Rattle.plan.specs.Groups.{groupCount, smallestMember}
 use Rattle.plan.specs.Modes.{size}
 use Rattle.plan.specs.Reading.{wellShaped}
-use Rattle.command.specs.Goal.{Masks}
-use Rattle.command.specs.Ancestors.{upstreamIn}
+use Rattle.command.specs.Goal.{Masks, met}
+use Rattle.command.specs.Ancestors.{downTo, upstreamIn}
 use Rattle.command.specs.Attainable.{groups, present, liveGroup, attains, deadEnd}
-use Rattle.command.specs.Attainable.{faultOf, groupFaults}
+use Rattle.command.specs.Attainable.{faultOf, groupFaults, attainFaults}
 use Rattle.command.specs.Uncovered.{Concerns, AllLive, NotLive, DeadEnd}
 use Rattle.command.specs.Covered.{Safe}
 use Rattle.command.specs.Uncovered.{Because, by-16, by-17, by-18, Passes}
 use Rattle.command.proofs.Shape.{Sound}
 use Rattle.command.proofs.Goals.{present-below}
 use Rattle.command.proofs.Smallest.{smallest}
-use Rattle.command.proofs.Highest.{fault-place, fault-none, none-fault}
+use Rattle.command.proofs.Highest.{downTo-mem, fault-place, fault-none, none-fault}
 use Rattle.command.proofs.Shown.{Small, attains-some, some-attains, attains-none, no-dead, dead-none, dead-some}
 
 module _ (m : Model) (plan state : List ℕ) (masks : Masks) where
@@ -48,8 +49,19 @@ module _ (m : Model) (plan state : List ℕ) (masks : Masks) where
   abbrev fault18 : ℕ → Fault
   fault18 k = faultOf m plan 18 (λ a. upstreamIn m plan k a && deadEnd m plan state masks a)
 
-  all-live : (k : ℕ) → fault16 k .applies ≡ false → AllLive m plan state masks k
-  all-live k f a below c = not-false _ (and-known (concern-test k a c) (fault-none m plan 16 _ f a below))
+  not-16 : (k : ℕ) → fault16 k .applies ≡ false → AllLive m plan state masks k
+  not-16 k f a below c = not-false _ (and-known (concern-test k a c) (fault-none m plan 16 _ f a below))
+
+  pub all-live : (k : ℕ) → clear (groupFaults m plan state masks k) ≡ true → AllLive m plan state masks k
+  unfolding groupFaults
+  all-live k h = not-16 k (clear-each _ h .0)
+
+  -- where no cause applies, none of an unmet group does
+  pub clear-group : clear (attainFaults m plan state masks) ≡ true → (k : ℕ) → k < groupCount (groups m plan)
+      → met (groups m plan) masks state k ≡ false → clear (groupFaults m plan state masks k) ≡ true
+  unfolding attainFaults
+  clear-group h k l unmet =
+      rw unmet at (all-at _ (sym (clear-flatMap _ (downTo count)) ∙ h) (downTo-mem count l))
 
   module _ (valid : Valid m) (shaped : wellShaped m plan ≡ true) (small : Small m plan) (sound : Sound m state) where
     now : (k : ℕ) → present m plan state k < size m (groups m plan) k
@@ -109,14 +121,14 @@ module _ (m : Model) (plan state : List ℕ) (masks : Masks) where
         (λ t. (
           18,
           fault18 k .place,
-          by-18 refl (all-live k live) (attains-some m plan masks state small k _ below (now k) reaches) (place-18 k t),
+          by-18 refl (not-16 k live) (attains-some m plan masks state small k _ below (now k) reaches) (place-18 k t),
           unless-later _ _ r live ∙ (unless-later _ _ r (not-of-true reaches) ∙ unless-first _ _ r t),
         ))
         (λ f. absurd (true-false (each-clear _ (live, (not-of-true reaches, (f, tt)))) h)))
         (λ f. (
           17,
           smallestMember (groups m plan) k,
-          by-17 refl (all-live k live) (attains-none m plan masks state small k _ below (now k) f)
+          by-17 refl (not-16 k live) (attains-none m plan masks state small k _ below (now k) f)
               (smallest m valid plan shaped state masks k below),
           unless-later _ _ r live ∙ unless-first _ _ r (not-of-false f),
         )))
@@ -128,7 +140,7 @@ module _ (m : Model) (plan state : List ℕ) (masks : Masks) where
     clear-passes k below h =
         let c = clear-each _ h in
         record {
-          live = all-live k (c .0);
+          live = not-16 k (c .0);
           attains = attains-some m plan masks state small k _ below (now k) (not-false _ (c .1 .0));
           no-dead-end = no-dead-end k (c .1 .1 .0);
         }

@@ -11,8 +11,9 @@ use lib.Dec.{eqb}
 use lib.ListN.{getD}
 use Rattle.common.specs.Lists.{any, find}
 use Rattle.common.specs.Bits.{bit}
-use Rattle.common.proofs.Bools.{by-cases, true-false, bool-ext, or-false-left, or-false-right, false-of-not-true}
+use Rattle.common.proofs.Bools.{by-cases, true-false, bool-ext, and-left, or-false-left, or-false-right, false-of-not-true}
 use Rattle.common.proofs.Lists.{all-cong, all-at, all-intro, all-fails}
+use Rattle.common.proofs.Least.{mem-or-not}
 use Rattle.common.proofs.Search.{find-holds, find-mem}
 use Rattle.common.proofs.When.{when-known, unless-known, all-when-intro}
 use Rattle.sheet.specs.Model.{Guard, Move, Model, machineCount, isLive, moveAt, guard}
@@ -93,7 +94,7 @@ module _ (m : Model) (valid : Valid m) (plan : List ℕ) (shaped : wellShaped m 
         let long = groups-length m valid plan shaped in
         live-means m own long k _ .1 (λ i b.
         let h = members-mean m own long i k .1 b in
-        ap (isLive m i) (mode-present k i h) ∙ all-at _ l h)
+        ap (isLive m i) (mode-present k i h) ∙ and-left _ _ (all-at _ l h))
 
   -- the needs of a move of group k, taken as a goal
   module _ (k v : ℕ) (member : List·Memᴰ v (movesOf m (groupsIn m plan) k)) where
@@ -186,6 +187,14 @@ module _ (m : Model) (valid : Valid m) (plan : List ℕ) (shaped : wellShaped m 
           (λ t. met-allowed state sound needs a ∙ needs-free a _ (λ l. named-other m own k (v ∷ []) l (eqb-true _ _ t)))
           (λ f. met-holds a (eqb-false _ _ f) ∙ all-when-intro _ _ guards (λ g l e.
           unless-known (ap (λ x. eqb x k) (eqb-true _ _ e) ∙ f) (all-at _ h l)))
+
+      -- a group that they leave unmet is one that the move names
+      pub unmet-named : (a : ℕ) → met (groupsIn m plan) (guardMasks m (groupsIn m plan) k (moveAt m v)) state a ≡ false
+          → List·Memᴰ a (namedOutside m (groupsIn m plan) k (v ∷ []))
+      unmet-named a unmet =
+          ⊎-elim (λ n. n)
+          (λ n. absurd (true-false (met-allowed state sound needs a ∙ needs-free a _ n) unmet))
+          (mem-or-not a (namedOutside m own k (v ∷ [])))
 
       -- a need that fails leaves a lower group unmet
       pub needs-fail : holdsOutside m plan state k (moveAt m v) ≡ false

@@ -111,13 +111,6 @@ module _ {m : Model} {plan : List ℕ} {Usable : ℕ → Type 0} {longest : ℕ 
     abbrev Named : ℕ → Type 0
     Named a = List·Memᴰ a (namedOutside m (groups m plan) k (v ∷ []))
 
-    pub unmet-named : (a : ℕ) → met (groups m plan) needs state a ≡ false → Named a
-    unmet-named a unmet =
-        ⊎-elim (λ n. n)
-        (λ n. absurd (true-false (Facts.met-allowed m valid plan (tables .shaped) state sound needs a
-        ∙ Facts.needs-free m valid plan (tables .shaped) k v member a _ n) unmet))
-        (mem-or-not a (namedOutside m (groups m plan) k (v ∷ [])))
-
     k-below : k < N
     k-below = Facts.move-below m valid plan (tables .shaped) k v member
 
@@ -129,7 +122,7 @@ module _ {m : Model} {plan : List ℕ} {Usable : ℕ → Type 0} {longest : ℕ 
           (named-of-move m (groupsIn m plan) k (usable-counts m plan k Usable member usable) n) k-below
 
       pub unmet-up : (a : ℕ) → met (groups m plan) needs state a ≡ false → upstreamIn m plan k a ≡ true
-      unmet-up a unmet = named-up a (unmet-named a unmet)
+      unmet-up a unmet = named-up a (Facts.unmet-named m valid plan (tables .shaped) k v member state sound a unmet)
 
       unmet-up-up : (a b : ℕ) → met (groups m plan) needs state a ≡ false → upstreamIn m plan a b ≡ true
           → upstreamIn m plan k b ≡ true

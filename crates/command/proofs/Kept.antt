@@ -5,6 +5,7 @@ use Prim.Native.Nat.{ℕ, suc, _+_, _≤_, _<_}
 use mathlib.Core.Path.{_≡_, _∙_}
 use mathlib.Core.Logic.{⊎-elim}
 use mathlib.Core.List.{List}
+use mathlib.Core.Bool.{true}
 use native.Mathlib.Nat.{le-refl}
 use native.Mathlib.Omega.{arith}
 use Rattle.common.specs.Lists.{upTo}
@@ -20,7 +21,7 @@ use Rattle.plan.specs.Reading.{boundIn}
 use Rattle.plan.specs.Laws.{PlanLaws}
 use Rattle.command.specs.State.{modeOf, withMode}
 use Rattle.command.specs.Goal.{Masks, goalMasks}
-use Rattle.command.specs.Attainable.{groups}
+use Rattle.command.specs.Attainable.{groups, liveGroup}
 use Rattle.command.specs.Covered.{Covered}
 use Rattle.command.specs.Next.{command}
 use Rattle.command.specs.Apply.{Answers, applyReply}
@@ -127,17 +128,27 @@ module _ {m : Model} {lent : Lent} {Usable : ℕ → Type 0} {longest cost : ℕ
         Facts.leading-from m valid (lent .plan) (laws .tables .shaped) j v (acting .member) (s .state) (kept .sound)
         (acting .leading)
 
+    -- its group is live: it is the highest unmet one, or upstream of it
+    sent-live : liveGroup m (lent .plan) (s .state) j ≡ true
+    sent-live =
+        let c = kept .covered in
+        let h = highest in
+        ⊎-elim
+        (λ w. rw (w .0) (c .itself-live (h .top) (h .top-below) (h .top-unmet)))
+        (λ w. c .upstream-live (h .top) j (h .top-below) (h .top-unmet) w)
+        (h .way)
+
     pub sent-answers : Answers m (s .state) (moveAt m v .machine) (moveAt m v .command) v
     sent-answers =
         Facts.move-answers m valid (lent .plan) (laws .tables .shaped) j v (acting .member) (s .state) (kept .sound)
-        (acting .leading) (acting .outside)
+        (acting .leading) (acting .outside) sent-live
 
     pub sent-applies : (sheet : List ℕ) (d : Parsed) → parse sheet ≡ given d → d .model ≡ m
         → applyReply sheet (s .state) (moveAt m v .machine) (moveAt m v .command)
         ≡ given (record { move = v; state = movedBy m s v .state })
     sent-applies =
         Facts.applied-reply m valid (lent .plan) (laws .tables .shaped) j v (acting .member) (s .state) (kept .sound)
-        (acting .leading) (acting .outside)
+        (acting .leading) (acting .outside) sent-live
 
     -- a command is given only while fewer have been applied than the bound
     pub sent-within : s .applied < boundIn m (lent .plan)

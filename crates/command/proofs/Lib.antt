@@ -1,4 +1,3 @@
-pub mod Absent
 pub mod Acted
 pub mod ActingLoops
 pub mod Acts
@@ -50,13 +49,17 @@ pub mod Shown
 pub mod Smallest
 pub mod Startable
 pub mod Starting
+pub mod StateTest
 pub mod States
 pub mod Stays
 pub mod StrandedLoop
+pub mod Tagless
+pub mod Tags
 pub mod Targets
 pub mod Testing
 pub mod TurnedDown
 pub mod Turns
+pub mod Untagged
 pub mod Upstream
 pub mod Verdicts
 pub mod Waiting

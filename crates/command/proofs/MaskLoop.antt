@@ -1,5 +1,5 @@
--- The loop over the machines that gathers the groups of which a machine is in a mode that its mask lacks: those that are
--- not live, by the live modes, and those that a goal leaves unmet, by what it allows.
+-- The loop over the machines that gathers the groups of which some machine fails a test: those that are not live, by the
+-- live modes and the tags, and those that a goal leaves unmet, by what it allows.
 -- Assumes nothing.
 use Prim.Native.Nat.{ℕ, _+_, _≤_, _<_}
 use mathlib.Core.Path.{_≡_, refl, sym, ap, ap₂, _∙_}
@@ -19,11 +19,11 @@ use Rattle.sets.proofs.Laws.{bit-none}
 use Rattle.sheet.specs.Model.{Model, isLive}
 use Rattle.plan.specs.Groups.{groupOf, members}
 use Rattle.plan.specs.Reading.{groupsIn}
-use Rattle.command.specs.State.{modeOf}
+use Rattle.command.specs.State.{modeOf, tagOf, untagged}
 use Rattle.command.specs.Goal.{Masks, allows, met}
 use Rattle.command.specs.Attainable.{liveGroup}
 use Rattle.command.specs.Question.{Allows, Placed, FailedSet, UnmetSet}
-use Rattle.command.proofs.Placing.{placed-sound, placed-mode, placed-group, placed-groups}
+use Rattle.command.proofs.Placing.{placed-mode, placed-numbers, placed-group, placed-groups}
 
 -- not each: some not
 not-or : (a b : Bool) → not (not a || b) ≡ (a && not b)
@@ -39,58 +39,110 @@ unfolding all any
 not-all p q [] = refl
 not-all p q (x ∷ xs) = not-and (not (q x) || p x) _ ∙ ap₂ _||_ (not-or (q x) (p x)) (not-all p q xs)
 
-module _ (state masks numbers : List ℕ) where
-  -- machine j is of group k and in a mode that its mask lacks
+-- the mode of machine j is in its mask; and it has no tag
+abbrev pub held : List ℕ → List ℕ → ℕ → Bool
+held state masks j = bit (getD masks j 0) (modeOf state j)
+
+abbrev pub heldFree : List ℕ → List ℕ → ℕ → Bool
+heldFree state masks j = held state masks j && untagged state j
+
+module _ (numbers : List ℕ) (fine : ℕ → Bool) where
+  -- machine j is of group k and fails
   abbrev lacks : ℕ → ℕ → Bool
-  lacks k j = eqb (groupOf numbers j) k && not (bit (getD masks j 0) (modeOf state j))
+  lacks k j = eqb (groupOf numbers j) k && not (fine j)
 
   pub record LackingUpto (i r : ℕ) : Type 0 where
-    pub inside : i ≤ length state
+    pub inside : i ≤ length numbers
     pub bits : (k : ℕ) → bit r k ≡ any (lacks k) (upTo i)
 
   pub lacking-none : LackingUpto 0 0
   unfolding upTo any
   lacking-none = record { inside = omega arith; bits = bit-none }
 
-  pub lacking-next : {i r g k mode t : ℕ} {has : Bool} → LackingUpto i r → i < length state → g ≡ groupOf numbers i → k ≡ g
-      → mode ≡ modeOf state i → has ≡ bit (getD masks i 0) mode
-      → ((j : ℕ) → bit t j ≡ (bit r j || (not has && eqb k j))) → LackingUpto (i + 1) t
+  pub lacking-next : {i r g k t : ℕ} → LackingUpto i r → i < length numbers → g ≡ groupOf numbers i → k ≡ g
+      → ((j : ℕ) → bit t j ≡ (bit r j || (not (fine i) && eqb k j))) → LackingUpto (i + 1) t
   unfolding upTo
-  lacking-next {i} {k = k} {has = has} u l e f d h q =
+  lacking-next {i} {k = k} u l e f q =
       record {
         inside = omega arith;
         bits = λ a. q a ∙ ap₂ _||_ (u .bits a) (one a) ∙ rw add-one (sym (any-snoc (lacks a) (upTo i) i));
       }
     where
-      one : (a : ℕ) → (not has && eqb k a) ≡ lacks a i
-      one a = rw (h, d, f, e) (and-comm (not (bit (getD masks i 0) (modeOf state i))) _)
+      one : (a : ℕ) → (not (fine i) && eqb k a) ≡ lacks a i
+      one a = rw (f, e) (and-comm (not (fine i)) _)
 
-  -- at the end, by what the mask of each machine says of its mode
-  lacking-end : {i r : ℕ} → LackingUpto i r → length state ≤ i → {m : Model} {plan : List ℕ} → Placed m plan state numbers
-      → (fine : ℕ → Bool) → ((j : ℕ) → j < length state → bit (getD masks j 0) (modeOf state j) ≡ fine j) → (k : ℕ)
-      → bit r k ≡ not (all fine (members (groupsIn m plan) k))
+  -- at the end, by another test that says the same of each machine
+  lacking-end : {i r : ℕ} → LackingUpto i r → length numbers ≤ i → {m : Model} {plan state : List ℕ}
+      → Placed m plan state numbers → (same : ℕ → Bool) → ((j : ℕ) → j < length numbers → fine j ≡ same j) → (k : ℕ)
+      → bit r k ≡ not (all same (members (groupsIn m plan) k))
   unfolding members
-  lacking-end {i} u l {m} {plan} p fine same k =
-      let e : i ≡ length (groupsIn m plan) = omega (arith, u .inside, placed-sound p .long, placed-groups p) in
+  lacking-end {i} u l {m} {plan} p same equal k =
+      let e : i ≡ length (groupsIn m plan) = omega (arith, u .inside, placed-numbers p, placed-groups p) in
       let own : ℕ → Bool = λ j. eqb (groupOf (groupsIn m plan) j) k in
       u .bits k
-      ∙ any-cong (lacks k) (λ j. own j && not (fine j)) (upTo i)
-      (λ j b. ap₂ (λ x y. eqb x k && not y) (placed-group p j) (same j (omega (arith, upTo-below i b, u .inside))))
-      ∙ rw e (sym (ap not (all-filtered fine own _) ∙ not-all fine own (upTo (length (groupsIn m plan)))))
+      ∙ any-cong (lacks k) (λ j. own j && not (same j)) (upTo i)
+      (λ j b. ap₂ (λ x y. eqb x k && not y) (placed-group p j) (equal j (omega (arith, upTo-below i b, u .inside))))
+      ∙ rw e (sym (ap not (all-filtered same own _) ∙ not-all same own (upTo (length (groupsIn m plan)))))
 
-  pub failed-end : {i r : ℕ} → LackingUpto i r → length state ≤ i → (m : Model) (plan : List ℕ)
-      → Placed m plan state numbers → masks ≡ pad 32 (m .live) → FailedSet m plan state r
-  unfolding liveGroup
-  failed-end u l m plan p s =
-      record { bits = λ k h. lacking-end u l p (λ j. isLive m j (modeOf state j)) (λ j b. rw (s, getD-pad)) k }
+-- one test after the other
+two-tests : (r a b e : Bool) → ((r || (not a && e)) || (not b && e)) ≡ (r || (not (a && b) && e))
+two-tests true a b e = refl
+two-tests false true b e = refl
+two-tests false false b true = refl
+two-tests false false true false = refl
+two-tests false false false false = refl
 
-  pub unmet-end : {i r : ℕ} → LackingUpto i r → length state ≤ i → (m : Model) (plan : List ℕ) (goal : Masks)
+module _ (state masks numbers : List ℕ) where
+  -- the groups that a goal leaves unmet
+  pub record UnmetUpto (i r : ℕ) : Type 0 where
+    pub upto : LackingUpto numbers (held state masks) i r
+
+  pub unmet-none : UnmetUpto 0 0
+  unmet-none = record { upto = lacking-none numbers _ }
+
+  pub unmet-next : {i r g k mode t : ℕ} {has : Bool} → UnmetUpto i r → i < length numbers → g ≡ groupOf numbers i → k ≡ g
+      → mode ≡ modeOf state i → has ≡ bit (getD masks i 0) mode
+      → ((j : ℕ) → bit t j ≡ (bit r j || (not has && eqb k j))) → UnmetUpto (i + 1) t
+  unmet-next u l e f d h q = record { upto = lacking-next numbers _ (u .upto) l e f (rw (← d, ← h) q) }
+
+  pub unmet-end : {i r : ℕ} → UnmetUpto i r → length numbers ≤ i → (m : Model) (plan : List ℕ) (goal : Masks)
       → Placed m plan state numbers → Allows m goal masks → UnmetSet m plan state goal r
   unfolding met
   unmet-end u l m plan goal p a =
       record {
         bits = λ k h.
-            lacking-end u l p (λ j. allows goal j (modeOf state j))
-            (λ j b. a .each j _ (omega (arith, placed-sound p .long)) (placed-mode p j b))
+            lacking-end numbers _ (u .upto) l p (λ j. allows goal j (modeOf state j))
+            (λ j b. a .each j _ (omega (arith, placed-numbers p)) (placed-mode p j (omega (arith, placed-numbers p))))
             k;
+      }
+
+  -- and those that are not live
+  pub record FailedUpto (i r : ℕ) : Type 0 where
+    pub upto : LackingUpto numbers (heldFree state masks) i r
+
+  pub failed-none : FailedUpto 0 0
+  failed-none = record { upto = lacking-none numbers _ }
+
+  pub failed-next : {i r g k mode tag t : ℕ} {has : Bool} (s : ℕ) → FailedUpto i r → i < length numbers → g ≡ groupOf numbers i
+      → k ≡ g → mode ≡ modeOf state i → has ≡ bit (getD masks i 0) mode
+      → ((j : ℕ) → bit s j ≡ (bit r j || (not has && eqb k j)))
+      → tag ≡ tagOf state i → ((j : ℕ) → bit t j ≡ (bit s j || (not (eqb tag 0) && eqb k j)))
+      → FailedUpto (i + 1) t
+  failed-next {i} {r = r} {k = k} {tag = tag} {has = has} s u l e f d h q c p =
+      let fine : has && eqb tag 0 ≡ heldFree state masks i = rw (h, d, c) refl in
+      record {
+        upto = lacking-next numbers _ (u .upto) l e f (λ j.
+            p j ∙ ap (λ x. x || (not (eqb tag 0) && eqb k j)) (q j)
+            ∙ two-tests (bit r j) has (eqb tag 0) (eqb k j)
+            ∙ ap (λ x. bit r j || (not x && eqb k j)) fine);
+      }
+
+  pub failed-end : {i r : ℕ} → FailedUpto i r → length numbers ≤ i → (m : Model) (plan : List ℕ)
+      → Placed m plan state numbers → masks ≡ pad 32 (m .live) → FailedSet m plan state r
+  unfolding liveGroup
+  failed-end u l m plan p s =
+      record {
+        bits = λ k h.
+            lacking-end numbers _ (u .upto) l p (λ j. isLive m j (modeOf state j) && untagged state j)
+            (λ j b. rw (s, getD-pad)) k;
       }

@@ -5,13 +5,13 @@ use Prim.Native.Nat.{ℕ, _<_}
 use mathlib.Core.Path.{_≡_}
 use mathlib.Core.Logic.{_↔_}
 use mathlib.Core.List.{List, List·Memᴰ}
-use mathlib.Core.Bool.{Bool, true}
+use mathlib.Core.Bool.{Bool, true, _&&_}
 use borrow.Author.Tests.{eqb-true, eqb-false, eq-eqb, ltb-true, lt-ltb}
 use lib.Dec.{eqb, ltb}
 use lib.ListN.{length, getD}
 use Rattle.common.specs.Lists.{all, any}
 use Rattle.common.specs.Bits.{bit}
-use Rattle.common.proofs.Bools.{by-cases, true-false}
+use Rattle.common.proofs.Bools.{by-cases, true-false, and-intro, and-left, and-right}
 use Rattle.common.proofs.Lists.{all-at, all-intro, any-intro}
 use Rattle.common.proofs.Members.{getD-map-upTo}
 use Rattle.common.proofs.Search.{find-holds, find-mem}
@@ -24,7 +24,7 @@ use Rattle.plan.specs.Meaning.{Belongs}
 use Rattle.plan.specs.Reading.{groupsIn, wellShaped}
 use Rattle.plan.proofs.Words.{members-mean}
 use Rattle.plan.proofs.Steps.{target-below, target-to, target-others}
-use Rattle.command.specs.State.{modeOf}
+use Rattle.command.specs.State.{modeOf, untagged}
 use Rattle.command.specs.Goal.{anyMode, goalMasks, guardMasks, met, allowed}
 use Rattle.command.specs.Attainable.{liveGroup}
 use Rattle.command.specs.Meaning.{StatesRight, GoalsRight, MovesRight}
@@ -88,7 +88,13 @@ states-right m plan state valid shaped passes =
     record {
       below = present-below m valid plan shaped state sound;
       modes = λ k i b. mode-present m valid plan shaped state sound k i (belongs m valid plan shaped i k .1 b);
-      live = each-machine m valid plan shaped (λ i. isLive m i (modeOf state i));
+      live = λ k.
+          let each = each-machine m valid plan shaped (λ i. isLive m i (modeOf state i) && untagged state i) k in (
+            λ l i b.
+                let both = each .0 l i b in
+                (and-left _ _ both, eqb-true _ _ (and-right (isLive m i (modeOf state i)) _ both)),
+            λ h. each .1 (λ i b. and-intro (h i b .0) (eq-eqb _ _ (h i b .1))),
+          );
       met-by = λ masks. each-machine m valid plan shaped (λ i. bit (getD masks i 255) (modeOf state i));
     }
 

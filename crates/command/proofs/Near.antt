@@ -22,7 +22,7 @@ use Rattle.sheet.proofs.Place.{refusal-near}
 use Rattle.plan.specs.Groups.{smallestMember}
 use Rattle.plan.specs.Reading.{groupsIn}
 use Rattle.plan.proofs.GroupLoops.{smallest-inside}
-use Rattle.command.specs.State.{absentMode, stateFaults, badByte, goalFaults}
+use Rattle.command.specs.State.{badPair, stateFaults, badByte, goalFaults}
 use Rattle.command.specs.Goal.{Masks, goalMasks, met}
 use Rattle.command.specs.Attainable.{groups, faultOf, groupFaults, attainFaults}
 use Rattle.command.specs.Next.{Next, holdsOutside, prepareBy, followBy, fulfil, goalRefusals, nextReply}
@@ -83,7 +83,7 @@ module _ (m : Model) (plan state : List ℕ) where
 module _ (m : Model) (valid : Valid m) where
   state-near : (state : List ℕ) → Each NearFault (stateFaults m state)
   unfolding stateFaults
-  state-near state = omega (arith, find-inside (absentMode m state) (machineCount m), valid .few-machines)
+  state-near state = omega (arith, find-inside (badPair m state) (machineCount m), valid .few-machines)
 
   -- 14 stands at a byte only of a goal that is not too long
   goal-near : {A : Type 0} (r : Reply A) (goal : List ℕ) (fs : List Fault) → Near (unless fs r)

@@ -13,11 +13,12 @@ use Rattle.common.specs.Reply.{Reply, given, refused}
 use Rattle.common.proofs.Reply.{given-not-refused}
 use Rattle.common.proofs.Bools.{by-cases, true-false, true-of-not-false}
 use Rattle.common.proofs.Least.{last-or-below}
-use Rattle.sheet.specs.Model.{Model, moveAt}
+use Rattle.sheet.specs.Model.{Model, moveCount, moveAt}
 use Rattle.sheet.specs.Valid.{Valid}
 use Rattle.sheet.proofs.Parsed.{parse-valid}
 use Rattle.plan.specs.Groups.{groupOf}
 use Rattle.plan.specs.Reading.{groupsIn, wellShaped}
+use Rattle.command.specs.State.{modeOf, tagOf}
 use Rattle.command.specs.Goal.{Masks, met}
 use Rattle.command.specs.Attainable.{groups}
 use Rattle.command.specs.Next.{Next, done, command, targetOf, holdsOutside, unfit, prepareBy, followBy, fulfil}
@@ -29,7 +30,8 @@ use Rattle.command.proofs.Following
 use Rattle.command.proofs.Fitness.{fit-test, test-fit, ready-test, test-ready, waits-test, test-waits}
 use Rattle.command.proofs.Targets.{LeavesModes, goal-leaves, needs-leave, allowed-some}
 use Rattle.command.proofs.Targets.{target-right, target-only}
-use Rattle.command.proofs.Acts.{answers-same}
+use Rattle.command.proofs.Shape.{sound-state}
+use Rattle.command.proofs.Untagged.{picked-untagged}
 use Rattle.command.proofs.Asking.{done-not-command, refusals-parts, next-fulfils}
 
 module _ (m : Model) (plan state : List ℕ) where
@@ -134,29 +136,39 @@ module _ (m : Model) (plan state : List ℕ) where
 
   -- Nothing else is
 
-  -- a move that is picked answers its command
-  abbrev OwnAnswers : Pick → Type 0
-  OwnAnswers noneUnmet = Unit {0}
-  OwnAnswers unfitEntry = Unit {0}
-  OwnAnswers (entryMove v) = Answers m state (moveAt m v .machine) (moveAt m v .command) v
+  -- a move that is picked starts from the mode that its machine is in, and answers its command if that has no tag
+  pub record Starts (v : ℕ) : Type 0 where
+    pub listed : v < moveCount m
+    pub from-now : moveAt m v .from ≡ modeOf state (moveAt m v .machine)
+    pub answers : tagOf state (moveAt m v .machine) ≡ 0 → Answers m state (moveAt m v .machine) (moveAt m v .command) v
 
-  picked-answers : {masks : Masks} {n : ℕ} {p : Pick} → Picks m plan state masks n p → OwnAnswers p
-  picked-answers (nothing-unmet h) = tt
-  picked-answers (held-up k q h t f) = tt
-  picked-answers (sends k q h t f o) =
+  abbrev OwnStarts : Pick → Type 0
+  OwnStarts noneUnmet = Unit {0}
+  OwnStarts unfitEntry = Unit {0}
+  OwnStarts (entryMove v) = Starts v
+
+  pub picked-starts : {masks : Masks} {n : ℕ} {p : Pick} → Picks m plan state masks n p → OwnStarts p
+  picked-starts (nothing-unmet h) = tt
+  picked-starts (held-up k q h t f) = tt
+  picked-starts (sends k q h t f o) =
       record {
-        there = f .listed;
-        its-machine = refl;
-        its-from = sym (f .from-now);
-        its-byte = refl;
-        its-needs = λ g l. by-cases (eqb (groupOf (groups m plan) (g .machine)) k)
-            (λ i. f .inside g l (eqb-true _ _ i)) (λ i. o g l (eqb-false _ _ i));
+        listed = f .listed;
+        from-now = sym (f .from-now);
+        answers = λ free. record {
+          there = f .listed;
+          its-machine = refl;
+          its-from = sym (f .from-now);
+          its-byte = refl;
+          its-needs = λ g l. by-cases (eqb (groupOf (groups m plan) (g .machine)) k)
+              (λ i. f .inside g l (eqb-true _ _ i)) (λ i. o g l (eqb-false _ _ i));
+          no-tag = free;
+        };
       }
-  picked-answers (prepares k q h t f w p) = picked-answers p
+  picked-starts (prepares k q h t f w p) = picked-starts p
 
   module _ (valid : Valid m) where
     -- and no other pick has the same reply
-    same-reply : (p q : Pick) → OwnAnswers p → OwnAnswers q → pickReply m p ≡ pickReply m q → p ≡ q
+    same-reply : (p q : Pick) → OwnStarts p → OwnStarts q → pickReply m p ≡ pickReply m q → p ≡ q
     same-reply noneUnmet noneUnmet a b e = refl
     same-reply noneUnmet unfitEntry a b e = absurd (given-not-refused e)
     same-reply noneUnmet (entryMove w) a b e = absurd (done-not-command e)
@@ -168,11 +180,13 @@ module _ (m : Model) (plan state : List ℕ) where
     same-reply (entryMove v) (entryMove w) a b e =
         let machine : moveAt m w .machine ≡ moveAt m v .machine = cc in
         let byte : moveAt m w .command ≡ moveAt m v .command = cc in
-        ap entryMove (answers-same m valid state _ _ a (rw (machine, byte) at b))
+        ap entryMove
+        (valid .moves-distinct v w (a .listed) (b .listed) (sym machine)
+        (a .from-now ∙ sym (b .from-now ∙ ap (modeOf state) machine)) (sym byte))
 
     picks-one : {masks : Masks} {n : ℕ} {p q : Pick} → Picks m plan state masks n p → Picks m plan state masks n q → p ≡ q
     picks-one {masks} {n} {p} {q} a b =
-        same-reply p q (picked-answers a) (picked-answers b) (sym (picks-replied a) ∙ picks-replied b)
+        same-reply p q (picked-starts a) (picked-starts b) (sym (picks-replied a) ∙ picks-replied b)
 
     -- a command that is replied, and that a move answers, is picked by the entry that names this move
     pub picks-move : wellShaped m plan ≡ true → (n : ℕ) (masks : Masks) → LeavesModes m masks → (v : ℕ)
@@ -182,7 +196,10 @@ module _ (m : Model) (plan state : List ℕ) where
     picks-move shaped n masks leaves v a e =
         let (p, picks) = picks-some valid shaped n masks leaves in
         subst (Picks m plan state masks n)
-        (same-reply p (entryMove v) (picked-answers picks) a (sym (picks-replied picks) ∙ e)) picks
+        (same-reply p (entryMove v) (picked-starts picks) starts (sym (picks-replied picks) ∙ e)) picks
+      where
+        starts : Starts v
+        starts = record { listed = a .there; from-now = a .its-from; answers = λ free. a }
 
 pub method-followed : MethodFollowed
 method-followed sheet plan state goal d parsed shaped passes =
@@ -197,5 +214,6 @@ method-followed sheet plan state goal d parsed shaped passes =
       replied =
           next-fulfils sheet plan state goal d parsed shaped (parts .0) (parts .1) (parts .2)
           ∙ picks-replied m plan state picks;
-      answers = λ v h. picked-answers m plan state h;
+      answers = λ v h. picked-starts m plan state h .answers
+          (picked-untagged m valid plan shaped state (sound-state m state (parts .0)) _ (parts .2) v h);
     }

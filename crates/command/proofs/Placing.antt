@@ -16,7 +16,7 @@ use Rattle.plan.specs.Groups.{groupOf, groupCount}
 use Rattle.plan.specs.Reading.{groupsIn}
 use Rattle.plan.specs.ModeSets.{ModesHeld}
 use Rattle.plan.proofs.NumbersUsed.{gapless-count}
-use Rattle.command.specs.State.{modeOf}
+use Rattle.command.specs.State.{machinesIn, modeOf}
 use Rattle.command.specs.Question.{Placed, Kept, numbersIn, weightsIn}
 use Rattle.command.proofs.Shape.{Sound, sound-state, shape-gapless, groups-length, group-below}
 
@@ -24,12 +24,15 @@ module _ {m : Model} {plan state numbers : List ℕ} (p : Placed m plan state nu
   pub placed-sound : Sound m state
   placed-sound = sound-state m state (p .passes)
 
-  pub placed-few : length state ≤ 32
-  placed-few = omega (arith, placed-sound .long, p .valid .few-machines)
+  pub placed-machines : machinesIn state ≡ machineCount m
+  placed-machines = omega (arith, placed-sound .long)
+
+  pub placed-known : machinesIn state ≤ 32
+  placed-known = omega (arith, placed-machines, p .valid .few-machines)
 
   -- the modes
-  pub placed-mode : (i : ℕ) → i < length state → modeOf state i < modeCount m i
-  placed-mode i h = placed-sound .fits i (omega (arith, placed-sound .long))
+  pub placed-mode : (i : ℕ) → i < machineCount m → modeOf state i < modeCount m i
+  placed-mode i h = placed-sound .fits i h
 
   -- the live modes, in an array of 32
   pub placed-live : {live : List ℕ} → live ≡ pad 32 (m .live) → length live ≡ 32
@@ -48,6 +51,9 @@ module _ {m : Model} {plan state numbers : List ℕ} (p : Placed m plan state nu
   pub placed-numbers : length numbers ≡ machineCount m
   placed-numbers = ap length (p .numbered) ∙ placed-groups
 
+  pub placed-few : length numbers ≤ 32
+  placed-few = omega (arith, placed-numbers, p .valid .few-machines)
+
   pub placed-group : (i : ℕ) → groupOf numbers i ≡ groupOf (groupsIn m plan) i
   placed-group i = ap (λ xs. getD xs i 0) (p .numbered)
 
@@ -65,16 +71,16 @@ module _ {m : Model} {plan state numbers : List ℕ} (p : Placed m plan state nu
 
 module _ {m : Model} {plan state facts zeros starts : List ℕ} (kept : Kept m plan state facts zeros starts) where
   -- the numbers of the machines that the state has
-  pub kept-placed : {numbers : List ℕ} → numbers ≡ numbersIn facts (length state) → Placed m plan state numbers
+  pub kept-placed : {numbers : List ℕ} → numbers ≡ numbersIn facts (machinesIn state) → Placed m plan state numbers
   kept-placed e =
       record {
         valid = kept .placed .valid;
         shaped = kept .placed .shaped;
         passes = kept .placed .passes;
-        numbered = e ∙ ap (numbersIn facts) (placed-sound (kept .placed) .long) ∙ kept .placed .numbered;
+        numbered = e ∙ ap (numbersIn facts) (placed-machines (kept .placed)) ∙ kept .placed .numbered;
       }
 
   -- where the machines stand in mode 0
-  pub kept-held : {numbers weights : List ℕ} → numbers ≡ numbersIn facts (length state) → weights ≡ weightsIn facts
+  pub kept-held : {numbers weights : List ℕ} → numbers ≡ numbersIn facts (machinesIn state) → weights ≡ weightsIn facts
       → ModesHeld m numbers weights zeros
   kept-held e f = rw (kept-placed e .numbered, f) (kept .held)

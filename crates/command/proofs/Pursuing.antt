@@ -22,6 +22,7 @@ use Rattle.plan.specs.Outline.{verdictSays}
 use Rattle.plan.specs.Partition.{MemberSets}
 use Rattle.plan.specs.Reading.{groupsIn, wellShaped}
 use Rattle.command.specs.Goal.{Masks}
+use Rattle.command.specs.State.{machinesIn}
 use Rattle.command.specs.Attainable.{attainFaults}
 use Rattle.command.specs.Next.{Next, followBy, fulfil}
 use Rattle.command.specs.Question.{Allows, Placed, Kept, GroupsOnly, FailedSet, NamedBy, UpstreamOfSome}
@@ -29,17 +30,17 @@ use Rattle.command.specs.Question.{AllowedSets, KeptGoal, numbersIn}
 use Rattle.command.proofs.CoverLoop.{above-only}
 use Rattle.command.proofs.GroupVerdict.{Top}
 use Rattle.command.proofs.LeftUnmet.{left-only, highest-left}
-use Rattle.command.proofs.Placing.{placed-few, placed-numbers, placed-number, kept-placed}
+use Rattle.command.proofs.Placing.{placed-known, placed-numbers, placed-number, kept-placed}
 use Rattle.command.proofs.Verdicts.{accepted-unless}
 
 module _ {m : Model} {file plan state : List ℕ} {goal : Masks} {bodies starts facts zeros named live masks : List ℕ}
     {left : ℕ} (q : KeptGoal m file plan state goal bodies starts facts zeros named live masks left) where
   -- what `numbers` asks
-  pub pursued-few : (length facts ≡ 128) × (length state ≤ 32)
-  pursued-few = (q .kept .long, placed-few (q .kept .placed))
+  pub pursued-few : (length facts ≡ 128) × (machinesIn state ≤ 32)
+  pursued-few = (q .kept .long, placed-known (q .kept .placed))
 
   -- by the numbers of the groups
-  module _ {own : List ℕ} (e : own ≡ numbersIn facts (length state)) where
+  module _ {own : List ℕ} (e : own ≡ numbersIn facts (machinesIn state)) where
     pub pursued-placed : Placed m plan state own
     pursued-placed = kept-placed (q .kept) e
 

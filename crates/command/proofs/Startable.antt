@@ -18,7 +18,7 @@ use Rattle.sheet.specs.Valid.{ValidMove}
 use Rattle.plan.specs.Groups.{groupOf, groupCount}
 use Rattle.plan.specs.Reading.{groupsIn}
 use Rattle.plan.specs.Table.{entry}
-use Rattle.command.specs.State.{modeOf}
+use Rattle.command.specs.State.{machinesIn, modeOf}
 use Rattle.command.specs.Goal.{Masks}
 use Rattle.command.specs.Next.{Next, holdsInside, unfit, prepareBy, followBy}
 use Rattle.command.specs.Question.{Placed, Kept, Listed, AllowedSet, HeldUp, OnlyOutside, numbersIn, entryToward}
@@ -111,7 +111,7 @@ module _ {plan state facts zeros starts file bodies : List ℕ} {k allowed d v :
     entry-absent past = refuses (unfit-absent m plan state k d v (omega (arith, l .one-each)))
 
     module _ (there : w < length bodies) {body numbers : List ℕ} (f : body ≡ bodyAt file (getD bodies w 0 - 4))
-        (g : numbers ≡ numbersIn facts (length state)) {held : ℕ}
+        (g : numbers ≡ numbersIn facts (machinesIn state)) {held : ℕ}
         (stops : (m : Model) (plan : List ℕ) → Placed m plan state numbers → ValidMove m (moveOf body)
         → HeldUp (groupsIn m plan) state (moveOf body) held) {starts-here : Bool}
         (judged : starts-here ≡ fromNow numbers state k (moveOf body)) where
@@ -150,7 +150,7 @@ module _ {plan state facts zeros starts file bodies : List ℕ} {k allowed d v :
         own-group = eqb-true _ _ (and-left _ _ (sym own-judged ∙ h))
 
         -- the move is of the group
-        pub entry-own : groupOf (numbersIn facts (length state)) (byte body 0) ≡ k
+        pub entry-own : groupOf (numbersIn facts (machinesIn state)) (byte body 0) ≡ k
         unfolding moveOf
         entry-own =
             let t : fromNow numbers state k (moveOf body) ≡ true = sym judged ∙ h in

@@ -1,12 +1,12 @@
 -- What a call is turned down for: 13, 14 and the shape of 15, each at its place and in their order; the sheet first.
 -- Assumes nothing.
-use Prim.Native.Nat.{ℕ, _≤_, _<_}
+use Prim.Native.Nat.{ℕ, _*_, _≤_, _<_}
 use mathlib.Core.Path.{_≡_, ap, _∙_}
 use mathlib.Core.Logic.{_↔_}
 use mathlib.Core.List.{List, [], _∷_, _++_, append-assoc}
 use mathlib.Core.Bool.{Bool, true, false}
 use borrow.Author.Tests.{eqb-false, eq-eqb, ne-eqb, ltb-false, lt-ltb, le-ltb, leb-false, lt-leb}
-use lib.Dec.{eqb}
+use lib.Dec.{eqb, leb}
 use lib.ListN.{length}
 use Rattle.common.specs.Lists.{upTo, any, find}
 use Rattle.common.specs.Reply.{Reply, given, refused, Fault, fault, unless, andThen}
@@ -19,28 +19,37 @@ use Rattle.common.proofs.Search.{find-upTo-is}
 use Rattle.common.proofs.Reply.{unless-first, unless-later}
 use Rattle.common.proofs.Clear.{clear-each, each-clear, unless-append-clear}
 use Rattle.sheet.specs.Record.{byte}
-use Rattle.sheet.specs.Model.{Model, machineCount}
+use Rattle.sheet.specs.Model.{Model, machineCount, modeCount}
 use Rattle.sheet.specs.Parse.{Parsed, parse}
 use Rattle.sheet.proofs.Parsed.{parse-valid}
 use Rattle.plan.specs.Groups.{groupCount}
 use Rattle.plan.specs.Reading.{groupsIn, wellShaped}
 use Rattle.plan.proofs.Shape.{shapes-right}
-use Rattle.command.specs.State.{absentMode, stateFaults, badByte, goalFaults}
+use Rattle.command.specs.State.{modeOf, tagOf, badPair, stateFaults, badByte, goalFaults}
 use Rattle.command.specs.Goal.{goalMasks}
 use Rattle.command.specs.Attainable.{attainFaults}
 use Rattle.command.specs.Next.{fulfil, goalRefusals, nextReply}
 use Rattle.command.specs.Apply.{applyReply}
 use Rattle.command.specs.TurnedDown.{Present, Sensible, StateFits, StatePasses, GoalPasses, FirstWrong}
 use Rattle.command.specs.TurnedDown.{TurnedDown, SheetBefore}
+use Rattle.command.proofs.States.{mode-byte, tag-byte}
 use Rattle.command.proofs.Shape.{sound-state, state-sound}
 use Rattle.command.proofs.Applying.{apply-reply}
 use Rattle.command.proofs.Asking.{misshapen-reply, shaped-reply}
 
 -- One machine or byte
 module _ (m : Model) where
-  pub present-exactly : (state : List ℕ) (i : ℕ) → (absentMode m state i ≡ false) ↔ Present m state i
-  unfolding absentMode
-  present-exactly state i = (λ f. leb-false _ _ f, λ l. lt-leb _ _ l)
+  pub present-exactly : (state : List ℕ) (i : ℕ) → (badPair m state i ≡ false) ↔ Present m state i
+  unfolding badPair
+  present-exactly state i = (
+    λ f. (
+      rw (mode-byte state i) at (leb-false (modeCount m i) (modeOf state i) (or-false-left (leb (modeCount m i) (modeOf state i)) _ f)),
+      rw (tag-byte state i) at (leb-false 2 (tagOf state i) (or-false-right (leb (modeCount m i) (modeOf state i)) _ f)),
+    ),
+    λ p. or-false-intro
+        (lt-leb (modeCount m i) (modeOf state i) (rw (mode-byte state i) (p .0)))
+        (lt-leb 2 (tagOf state i) (rw (tag-byte state i) (p .1))),
+  )
 
   sensible-exactly : (goal : List ℕ) (i : ℕ) → (badByte m goal i ≡ false) ↔ Sensible m goal i
   unfolding badByte
@@ -55,8 +64,16 @@ module _ (m : Model) where
 -- What passes
 pub state-passes : StatePasses
 state-passes m state = (
-  λ h. let s = sound-state m state h in (s .long, s .fits),
-  λ s. each-clear _ (state-sound m state (record { long = s .0; fits = s .1 })),
+  λ h.
+      let s = sound-state m state h in (
+        s .long,
+        λ i l. (rw (← mode-byte state i) (s .fits i l), rw (← tag-byte state i) (s .tags-fit i l)),
+      ),
+  λ s. each-clear _ (state-sound m state (record {
+    long = s .0;
+    fits = λ i l. rw (mode-byte state i) (s .1 i l .0);
+    tags-fit = λ i l. rw (tag-byte state i) (s .1 i l .1);
+  })),
 )
 
 pub goal-passes : GoalPasses
@@ -85,16 +102,16 @@ first-wrong-refuses number p n rest r exactly {i} first =
 
 -- 13, with other causes behind it
 module _ {A : Type 0} (m : Model) (state : List ℕ) (rest : List Fault) (r : Reply A) where
-  pub wrong-length : (length state ≡ machineCount m → ⊥) → unless (stateFaults m state ++ rest) r ≡ refused 13 255
+  pub wrong-length : (length state ≡ 2 * machineCount m → ⊥) → unless (stateFaults m state ++ rest) r ≡ refused 13 255
   unfolding stateFaults
   wrong-length n = unless-first _ _ r (not-of-false (ne-eqb _ _ n))
 
-  pub wrong-mode : {i : ℕ} → length state ≡ machineCount m → FirstWrong (Present m state) (machineCount m) i
+  pub wrong-pair : {i : ℕ} → length state ≡ 2 * machineCount m → FirstWrong (Present m state) (machineCount m) i
       → unless (stateFaults m state ++ rest) r ≡ refused 13 i
   unfolding stateFaults
-  wrong-mode e first =
+  wrong-pair e first =
       unless-later _ _ r (not-of-true (eq-eqb _ _ e))
-      ∙ first-wrong-refuses 13 (absentMode m state) (machineCount m) rest r (present-exactly m state) first
+      ∙ first-wrong-refuses 13 (badPair m state) (machineCount m) rest r (present-exactly m state) first
 
 -- 14, with other causes behind it
 module _ {A : Type 0} (m : Model) (goal : List ℕ) (rest : List Fault) (r : Reply A) where
@@ -140,13 +157,13 @@ turned-down sheet plan state goal machine command d parses bytes =
       record {
         shape = λ n. misshapen-reply sheet plan state goal d parses (false-of-not-true (λ t. n (exactly .0 t)));
         state-length = λ s n. judged sheet plan state goal d parses (exactly .1 s) ∙ wrong-length m state _ _ n;
-        state-mode = λ i s e w. judged sheet plan state goal d parses (exactly .1 s) ∙ wrong-mode m state _ _ e w;
+        state-machine = λ i s e w. judged sheet plan state goal d parses (exactly .1 s) ∙ wrong-pair m state _ _ e w;
         goal-length = λ s f l. state-judged sheet plan state goal d parses (exactly .1 s) f ∙ too-long m goal _ _ l;
         goal-byte = λ i s f l w. state-judged sheet plan state goal d parses (exactly .1 s) f ∙ wrong-byte m goal _ _ l w;
       },
       record {
         state-length = λ n. applying ∙ wrong-length m state [] _ n;
-        state-mode = λ i e w. applying ∙ wrong-mode m state [] _ e w;
+        state-machine = λ i e w. applying ∙ wrong-pair m state [] _ e w;
       },
     )
 

@@ -25,7 +25,7 @@ use Rattle.plan.specs.Modes.{size}
 use Rattle.plan.specs.ModeSets.{ModesHeld, MeetingSet}
 use Rattle.plan.specs.Reading.{groupsIn}
 use Rattle.plan.proofs.Named.{moves-in, moves-mem, guard-at-most}
-use Rattle.command.specs.State.{modeOf}
+use Rattle.command.specs.State.{machinesIn, modeOf}
 use Rattle.command.specs.Goal.{Masks, guardMasks, met}
 use Rattle.command.specs.Next.{Next, command, holdsInside, holdsOutside, prepareBy, followBy}
 use Rattle.command.specs.Method.{HighestUnmet}
@@ -168,14 +168,14 @@ module _ {plan state facts zeros starts : List ℕ} (b : List ℕ) {waits : ℕ}
     prepare-there = waits-there (kept .placed) there o small on top
 
     -- it is below the move's own group
-    pub prepare-lower : j < groupOf (numbersIn facts (length state)) (byte b 0)
+    pub prepare-lower : j < groupOf (numbersIn facts (machinesIn state)) (byte b 0)
     unfolding moveOf
     prepare-lower =
         let low = waits-lower (kept .placed) there o small on top in
         let e : byte b 0 ≡ moveAt m v .machine = ap (λ w. w .machine) same in
         rw (e, placed-group (kept-placed kept refl)) low
 
-    module _ {numbers weights : List ℕ} {n within wanted : ℕ} (e : numbers ≡ numbersIn facts (length state))
+    module _ {numbers weights : List ℕ} {n within wanted : ℕ} (e : numbers ≡ numbersIn facts (machinesIn state))
         (f : weights ≡ weightsIn facts) (g : n ≡ sizeIn facts j) (h : within ≡ below n)
         (meeting : (m : Model) → ModesHeld m numbers weights zeros → ValidMove m (moveOf b)
         → MeetingSet m numbers j (moveOf b) within wanted) where

@@ -9,20 +9,22 @@ use Rattle.common.specs.Bits.{bit}
 use Rattle.common.specs.Reply.{Reply, given, refused, unless, andThen}
 use Rattle.sheet.specs.Model.{Guard, Model, moveCount, moveAt}
 use Rattle.sheet.specs.Parse.{parse}
-use Rattle.command.specs.State.{modeOf, withMode, stateFaults}
+use Rattle.command.specs.State.{modeOf, tagOf, untagged, withMode, stateFaults}
 
 -- no move
 abbrev pub noneActs : ℕ
 noneActs = 255
 
 module _ (m : Model) (state : List ℕ) (machine command : ℕ) where
-  -- move v answers the command: its machine and byte, from the mode that the machine is in, nothing that it needs missing
+  -- move v answers the command: its machine and byte, from the mode that the machine is in, nothing that it needs missing,
+  -- and no tag on the machine
   unfoldable pub acts : ℕ → Bool
   acts v =
       eqb (moveAt m v .machine) machine
       && eqb (moveAt m v .from) (modeOf state machine)
       && eqb (moveAt m v .command) command
       && all (λ g. bit (g .mask) (modeOf state (g .machine))) (moveAt m v .guards)
+      && untagged state machine
 
   -- What it means, need by need.
   pub record Answers (v : ℕ) : Type 0 where
@@ -31,6 +33,7 @@ module _ (m : Model) (state : List ℕ) (machine command : ℕ) where
     pub its-from : moveAt m v .from ≡ modeOf state machine
     pub its-byte : moveAt m v .command ≡ command
     pub its-needs : (g : Guard) → List·Memᴰ g (moveAt m v .guards) → bit (g .mask) (modeOf state (g .machine)) ≡ true
+    pub no-tag : tagOf state machine ≡ 0
 
   unfoldable pub actingMove : ℕ
   actingMove = find acts (upTo (moveCount m)) noneActs

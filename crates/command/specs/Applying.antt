@@ -7,7 +7,7 @@ use mathlib.Core.Bool.{true, false}
 use Rattle.common.specs.Reply.{given, refused, clear}
 use Rattle.sheet.specs.Model.{Model, moveAt}
 use Rattle.sheet.specs.Parse.{Parsed, parse}
-use Rattle.command.specs.State.{modeOf, stateFaults}
+use Rattle.command.specs.State.{modeOf, tagOf, stateFaults}
 use Rattle.command.specs.Apply.{Answers, Applied, Effect, applyReply, effectReply, stateAfter}
 
 -- What applying tells of the move, by the states before and afterwards.
@@ -28,6 +28,11 @@ pub record ApplyRight (m : Model) (sheet state : List ℕ) (machine command : �
       → (a .move ≡ v) × (modeOf (a .state) machine ≡ moveAt m v .to)
   pub others : (i : ℕ) (a : Applied) → applyReply sheet state machine command ≡ given a → (i ≡ machine → ⊥)
       → modeOf (a .state) i ≡ modeOf state i
+  -- no tag is written
+  pub tags : (i : ℕ) (a : Applied) → applyReply sheet state machine command ≡ given a → tagOf (a .state) i ≡ tagOf state i
+  -- a tagged machine does not change
+  pub tagged : (tagOf state machine ≡ 0 → ⊥)
+      → applyReply sheet state machine command ≡ given (record { move = 255; state = state })
   -- if none does, nothing changes
   pub idle : ((v : ℕ) → Answers m state machine command v → ⊥)
       → applyReply sheet state machine command ≡ given (record { move = 255; state = state })

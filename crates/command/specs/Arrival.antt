@@ -11,7 +11,7 @@ use Rattle.plan.specs.Groups.{groupOf, groupCount}
 use Rattle.plan.specs.Laws.{PlanLaws}
 use Rattle.plan.specs.Planning.{planReply}
 use Rattle.plan.specs.Reading.{groupsIn, boundIn}
-use Rattle.command.specs.State.{modeOf, withMode}
+use Rattle.command.specs.State.{modeOf, tagOf, withMode}
 use Rattle.command.specs.Meaning.{MachineMeets}
 use Rattle.command.specs.Next.{Next, done, command, goalRefusals}
 use Rattle.command.specs.Method.{entryMove, PicksFor}
@@ -40,6 +40,8 @@ module _ (lent : Lent) (m : Model) where
     -- a command that is given finds its needs met: some move answers it
     pub finds-needs : (i c : ℕ) → askReply lent (s .state) ≡ given (command i c)
         → (v : ℕ) × Answers m (s .state) i c v
+    -- its machine has no tag
+    pub untagged : (i c : ℕ) → askReply lent (s .state) ≡ given (command i c) → tagOf (s .state) i ≡ 0
     -- and there is room left under the bound
     pub within-bound : (i c : ℕ) → askReply lent (s .state) ≡ given (command i c) → s .applied < boundIn m (lent .plan)
 
@@ -75,6 +77,9 @@ module _ (lent : Lent) (m : Model) where
     pub stays : (before between later : List Call) → calls ≡ before ++ (between ++ later) → (g : ℕ)
         → AsWishedFrom (afterAll lent start before .state) g
         → AsWishedFrom (afterAll lent start (before ++ between) .state) g
+    -- the tags are the same throughout
+    pub tags-stay : (before later : List Call) → calls ≡ before ++ later → (i : ℕ)
+        → tagOf (afterAll lent start before .state) i ≡ tagOf (start .state) i
 
 -- With a sheet and the plan that planning wrote for it, and a state and goal for which none of 13, 14 and 16 to 18 applies,
 -- every list of calls that is a run keeps the promise.

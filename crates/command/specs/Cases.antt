@@ -25,7 +25,8 @@ use Rattle.plan.specs.Bytes.{fourBytes, tableIn, bytesOf, tableLength, tableAt,
 use Rattle.plan.specs.Planning.{large, largeGroup, largePlace, largePlan, largeBound, sizeFaults, wrongBuffer, ownPlan, lengthReply, planReply}
 use Rattle.plan.specs.Laws.{counted}
 use Rattle.plan.specs.Reading.{groupsIn, tableOfGroup, entryIn, entryAt, hasRecord, gapless, needsFirst, fitsRecords, wellShaped, boundIn}
-use Rattle.command.specs.State.{modes, withMode, absentMode, stateFaults, badByte, goalFaults}
+use Rattle.command.specs.State.{everySecond, modes, tags, withMode, badPair, stateFaults, badByte, goalFaults}
+use Rattle.command.specs.Tagless.{tagless}
 use Rattle.command.specs.Goal.{goalMasks, guardMasks, met, allowed}
 use Rattle.command.specs.Ancestors.{downTo, groupGraph, upstream}
 use Rattle.command.specs.Attainable.{liveGroup, attains, deadEnd, highest, faultOf, groupFaults, attainFaults}
@@ -81,13 +82,13 @@ AllHold (r ∷ rs) = Holds r × AllHold rs
 
 -- the stove all off, what case 3 wishes of it, and two machines in their first modes
 abbrev pub off : List ℕ
-off = 0 ∷ 0 ∷ 0 ∷ []
+off = tagless (0 ∷ 0 ∷ 0 ∷ [])
 
 abbrev pub lit : List ℕ
 lit = 1 ∷ 2 ∷ 2 ∷ []
 
 abbrev pub idle : List ℕ
-idle = 0 ∷ 0 ∷ []
+idle = tagless (0 ∷ 0 ∷ [])
 
 -- case 3's commands, asked for twice now and then, with refused calls between
 abbrev pub stoveCalls : List Call
@@ -102,58 +103,58 @@ cases =
     -- 2: from fan off, burner lit to fan on, burner lit
     ∷ far stove 1 2 3 3
     -- 3
-    ∷ walks stove (0 ∷ 0 ∷ 0 ∷ []) (1 ∷ 2 ∷ 2 ∷ []) (sent 0 1 0 ∷ sent 1 1 2 ∷ sent 2 1 4 ∷ sent 0 2 1 ∷ finished 4 7 ∷ [])
+    ∷ walks stove (tagless (0 ∷ 0 ∷ 0 ∷ [])) (1 ∷ 2 ∷ 2 ∷ []) (sent 0 1 0 ∷ sent 1 1 2 ∷ sent 2 1 4 ∷ sent 0 2 1 ∷ finished 4 7 ∷ [])
     -- 4
-    ∷ asks stove (1 ∷ 1 ∷ 2 ∷ []) (2 ∷ 2 ∷ 2 ∷ []) (given (command 2 3))
+    ∷ asks stove (tagless (1 ∷ 1 ∷ 2 ∷ [])) (2 ∷ 2 ∷ 2 ∷ []) (given (command 2 3))
     -- 5
-    ∷ asks stove (1 ∷ 1 ∷ 1 ∷ []) (3 ∷ 3 ∷ 4 ∷ []) (refused 17 1)
+    ∷ asks stove (tagless (1 ∷ 1 ∷ 1 ∷ [])) (3 ∷ 3 ∷ 4 ∷ []) (refused 17 1)
     -- 6
-    ∷ applies stove (1 ∷ 1 ∷ 1 ∷ []) 1 2 (given (record { move = 255; state = 1 ∷ 1 ∷ 1 ∷ [] }))
+    ∷ applies stove (tagless (1 ∷ 1 ∷ 1 ∷ [])) 1 2 (given (record { move = 255; state = tagless (1 ∷ 1 ∷ 1 ∷ []) }))
     -- 7
     ∷ plans lone (0 ∷ []) (0 ∷ []) 0 23
-    ∷ asks lone (0 ∷ []) (1 ∷ []) (given done)
-    ∷ walks lone (0 ∷ []) [] (finished 0 0 ∷ [])
+    ∷ asks lone (tagless (0 ∷ [])) (1 ∷ []) (given done)
+    ∷ walks lone (tagless (0 ∷ [])) [] (finished 0 0 ∷ [])
     -- 8
-    ∷ asks filterAndPan (0 ∷ 0 ∷ []) (1 ∷ 2 ∷ []) (refused 18 0)
-    ∷ walks filterAndPan (0 ∷ 0 ∷ []) (1 ∷ 2 ∷ []) (stopped 18 0 ∷ [])
+    ∷ asks filterAndPan (tagless (0 ∷ 0 ∷ [])) (1 ∷ 2 ∷ []) (refused 18 0)
+    ∷ walks filterAndPan (tagless (0 ∷ 0 ∷ [])) (1 ∷ 2 ∷ []) (stopped 18 0 ∷ [])
     -- a failed mode of a needed machine: in the way only when it is there
-    ∷ asks burnt (0 ∷ 0 ∷ []) (7 ∷ 2 ∷ []) (given (command 0 1))
-    ∷ asks burnt (2 ∷ 0 ∷ []) (7 ∷ 2 ∷ []) (refused 16 0)
+    ∷ asks burnt (tagless (0 ∷ 0 ∷ [])) (7 ∷ 2 ∷ []) (given (command 0 1))
+    ∷ asks burnt (tagless (2 ∷ 0 ∷ [])) (7 ∷ 2 ∷ []) (refused 16 0)
     -- the nearest allowed mode, and of two as near the smaller
-    ∷ asks nearer (0 ∷ []) (6 ∷ []) (given (command 0 3))
-    ∷ asks tied (0 ∷ []) (6 ∷ []) (given (command 0 2))
+    ∷ asks nearer (tagless (0 ∷ [])) (6 ∷ []) (given (command 0 3))
+    ∷ asks tied (tagless (0 ∷ [])) (6 ∷ []) (given (command 0 2))
     -- a dead end that is not upstream
-    ∷ asks apart (0 ∷ 0 ∷ []) (1 ∷ 2 ∷ []) (given (command 1 1))
+    ∷ asks apart (tagless (0 ∷ 0 ∷ [])) (1 ∷ 2 ∷ []) (given (command 1 1))
     -- plans that are not the sheet's own
-    ∷ follows lone [] (0 ∷ []) [] (refused 15 0)
-    ∷ follows lone otherPlan (0 ∷ []) [] (given done)
+    ∷ follows lone [] (tagless (0 ∷ [])) [] (refused 15 0)
+    ∷ follows lone otherPlan (tagless (0 ∷ [])) [] (given done)
     -- a command whose need fails changes nothing
-    ∷ applies stove (0 ∷ 0 ∷ 0 ∷ []) 1 1 (given (record { move = 255; state = 0 ∷ 0 ∷ 0 ∷ [] }))
+    ∷ applies stove (tagless (0 ∷ 0 ∷ 0 ∷ [])) 1 1 (given (record { move = 255; state = tagless (0 ∷ 0 ∷ 0 ∷ []) }))
     -- commands that act; an absent machine or command 0 changes nothing
-    ∷ applies stove off 0 1 (given (record { move = 0; state = 1 ∷ 0 ∷ 0 ∷ [] }))
-    ∷ applies stove (1 ∷ 1 ∷ 2 ∷ []) 2 3 (given (record { move = 6; state = 1 ∷ 1 ∷ 0 ∷ [] }))
+    ∷ applies stove off 0 1 (given (record { move = 0; state = tagless (1 ∷ 0 ∷ 0 ∷ []) }))
+    ∷ applies stove (tagless (1 ∷ 1 ∷ 2 ∷ [])) 2 3 (given (record { move = 6; state = tagless (1 ∷ 1 ∷ 0 ∷ []) }))
     ∷ applies stove off 3 1 (given (record { move = 255; state = off }))
     ∷ applies stove off 0 0 (given (record { move = 255; state = off }))
     -- a short goal: what it does not reach is free
-    ∷ asks stove (1 ∷ 1 ∷ 2 ∷ []) [] (given done)
+    ∷ asks stove (tagless (1 ∷ 1 ∷ 2 ∷ [])) [] (given done)
     ∷ asks stove off (1 ∷ []) (given done)
     ∷ walks stove off (1 ∷ []) (finished 0 7 ∷ [])
-    ∷ walks stove (1 ∷ 0 ∷ 0 ∷ []) (1 ∷ []) (sent 0 2 1 ∷ finished 1 7 ∷ [])
+    ∷ walks stove (tagless (1 ∷ 0 ∷ 0 ∷ [])) (1 ∷ []) (sent 0 2 1 ∷ finished 1 7 ∷ [])
     -- two needs on one group, of which one holds: both are prepared at once, so the lid is not shut again
-    ∷ asks lidAndArm (1 ∷ 0 ∷ 0 ∷ []) (3 ∷ 7 ∷ 2 ∷ []) (given (command 1 3))
-    ∷ walks lidAndArm (0 ∷ 1 ∷ 0 ∷ []) (3 ∷ 7 ∷ 2 ∷ [])
+    ∷ asks lidAndArm (tagless (1 ∷ 0 ∷ 0 ∷ [])) (3 ∷ 7 ∷ 2 ∷ []) (given (command 1 3))
+    ∷ walks lidAndArm (tagless (0 ∷ 1 ∷ 0 ∷ [])) (3 ∷ 7 ∷ 2 ∷ [])
     (sent 1 1 2 ∷ sent 0 1 0 ∷ sent 1 3 4 ∷ sent 1 4 5 ∷ sent 2 1 6 ∷ finished 5 11 ∷ [])
     -- the sheet first, then the plan's shape
     ∷ follows [] [] [] [] (refused 1 0)
     ∷ applies [] [] 0 0 (refused 1 0)
     ∷ follows stove [] [] (0 ∷ []) (refused 15 0)
     -- 13 by length, and at the first bad machine; it comes before 14
-    ∷ asks stove (2 ∷ 9 ∷ []) lit (refused 13 255)
-    ∷ asks stove (0 ∷ 0 ∷ 0 ∷ 0 ∷ []) (0 ∷ []) (refused 13 255)
-    ∷ asks stove (1 ∷ 2 ∷ 3 ∷ []) (0 ∷ []) (refused 13 1)
-    ∷ applies stove (2 ∷ 9 ∷ []) 0 1 (refused 13 255)
-    ∷ applies stove (0 ∷ 0 ∷ 0 ∷ 0 ∷ []) 0 1 (refused 13 255)
-    ∷ applies stove (1 ∷ 2 ∷ 3 ∷ []) 0 2 (refused 13 1)
+    ∷ asks stove (tagless (2 ∷ 9 ∷ [])) lit (refused 13 255)
+    ∷ asks stove (tagless (0 ∷ 0 ∷ 0 ∷ 0 ∷ [])) (0 ∷ []) (refused 13 255)
+    ∷ asks stove (tagless (1 ∷ 2 ∷ 3 ∷ [])) (0 ∷ []) (refused 13 1)
+    ∷ applies stove (tagless (2 ∷ 9 ∷ [])) 0 1 (refused 13 255)
+    ∷ applies stove (tagless (0 ∷ 0 ∷ 0 ∷ 0 ∷ [])) 0 1 (refused 13 255)
+    ∷ applies stove (tagless (1 ∷ 2 ∷ 3 ∷ [])) 0 2 (refused 13 1)
     -- 14 by length, and at the first bad byte: empty, or beyond the machine's modes
     ∷ asks stove off (0 ∷ 2 ∷ 2 ∷ 1 ∷ []) (refused 14 255)
     ∷ asks stove off (1 ∷ 0 ∷ 8 ∷ []) (refused 14 1)
@@ -194,8 +195,23 @@ cases =
     ∷ follows filterAndPan (planWith filterAndPan 40 18) idle [] (refused 15 0)
     ∷ follows filterAndPan (take 38 (ownPlan (modelIn filterAndPan))) idle [] (refused 15 0)
     ∷ follows filterAndPan (ownPlan (modelIn filterAndPan) ++ (0 ∷ [])) idle [] (refused 15 0)
+    -- Tags. A state of one byte a machine, and one of an odd length; the first machine with an absent mode or another tag.
+    ∷ asks stove (0 ∷ 0 ∷ 0 ∷ []) lit (refused 13 255)
+    ∷ asks stove (0 ∷ 0 ∷ 0 ∷ 0 ∷ 0 ∷ []) lit (refused 13 255)
+    ∷ asks stove (0 ∷ 0 ∷ 0 ∷ 2 ∷ 3 ∷ 0 ∷ []) lit (refused 13 1)
+    ∷ asks stove (0 ∷ 0 ∷ 2 ∷ 0 ∷ 0 ∷ 2 ∷ []) lit (refused 13 1)
+    ∷ applies stove (0 ∷ 0 ∷ 0 ∷ 0 ∷ 0 ∷ 2 ∷ []) 0 1 (refused 13 2)
+    -- on a machine that is as the fan needs it, and on one of an unmet group
+    ∷ asks stove (1 ∷ 1 ∷ 0 ∷ 0 ∷ 0 ∷ 0 ∷ []) (3 ∷ 2 ∷ []) (refused 16 0)
+    ∷ asks stove (1 ∷ 0 ∷ 1 ∷ 1 ∷ 0 ∷ 0 ∷ []) (3 ∷ 3 ∷ 2 ∷ []) (refused 16 1)
+    -- on machines of a met group that no unmet one needs; where nothing is left to be done
+    ∷ asks stove (1 ∷ 0 ∷ 0 ∷ 1 ∷ 0 ∷ 1 ∷ []) (1 ∷ []) (given (command 0 2))
+    ∷ asks stove (1 ∷ 1 ∷ 0 ∷ 1 ∷ 0 ∷ 1 ∷ []) (2 ∷ 1 ∷ []) (given done)
+    -- applying: not to a tagged machine; its tag does not hinder another, and no tag changes
+    ∷ applies stove (0 ∷ 1 ∷ 0 ∷ 0 ∷ 0 ∷ 0 ∷ []) 0 1 (given (record { move = 255; state = 0 ∷ 1 ∷ 0 ∷ 0 ∷ 0 ∷ 0 ∷ [] }))
+    ∷ applies stove (1 ∷ 1 ∷ 0 ∷ 0 ∷ 0 ∷ 1 ∷ []) 1 1 (given (record { move = 2; state = 1 ∷ 1 ∷ 1 ∷ 0 ∷ 0 ∷ 1 ∷ [] }))
     -- arrival is not empty: the stove meets its premises, and its run ends as wished
-    ∷ runs stove (0 ∷ 0 ∷ 0 ∷ []) (1 ∷ 2 ∷ 2 ∷ []) 107 stoveCalls (0 ∷ 1 ∷ 1 ∷ []) 4
+    ∷ runs stove (tagless (0 ∷ 0 ∷ 0 ∷ [])) (1 ∷ 2 ∷ 2 ∷ []) 107 stoveCalls (tagless (0 ∷ 1 ∷ 1 ∷ [])) 4
     ∷ []
 
 infixr 20 _⊗_
@@ -216,7 +232,7 @@ unfolding
     tableOf longest costIn costsUpto boundOf planBound counted twoBytes fourBytes recordOf tableIn bytesOf tableLength tableAt
     planLength large largeGroup largePlace largePlan largeBound sizeFaults wrongBuffer ownPlan lengthReply
     planReply groupsIn tableOfGroup entryIn entryAt hasRecord gapless needsFirst fitsRecords wellShaped boundIn
-    modes withMode absentMode stateFaults badByte goalFaults goalMasks guardMasks met allowed downTo groupGraph upstream
+    everySecond modes tags withMode tagless badPair stateFaults badByte goalFaults goalMasks guardMasks met allowed downTo groupGraph upstream
     liveGroup attains deadEnd highest faultOf groupFaults attainFaults nearest targetOf holdsInside holdsOutside
     unfit prepareBy followBy fulfil goalRefusals misshapen nextReply acts actingMove stateBy applyReply after
     afterAll obeyReply turnReply obey walkLines
@@ -226,4 +242,5 @@ cases-hold =
     ⊗ refl ⊗ refl ⊗ refl ⊗ refl ⊗ refl ⊗ refl ⊗ refl ⊗ refl ⊗ refl ⊗ refl ⊗ refl ⊗ refl ⊗ refl ⊗ refl ⊗ refl ⊗ refl
     ⊗ refl ⊗ refl ⊗ refl ⊗ refl ⊗ refl ⊗ refl ⊗ refl ⊗ refl ⊗ refl ⊗ refl ⊗ refl ⊗ refl ⊗ refl ⊗ refl ⊗ refl ⊗ refl
     ⊗ refl ⊗ refl ⊗ refl ⊗ refl ⊗ refl ⊗ refl ⊗ refl ⊗ refl ⊗ refl ⊗ refl
+    ⊗ refl ⊗ refl ⊗ refl ⊗ refl ⊗ refl ⊗ refl ⊗ refl ⊗ refl ⊗ refl ⊗ refl ⊗ refl
     ⊗ (refl, refl, refl, tt ⊗ tt ⊗ tt ⊗ tt ⊗ tt ⊗ tt ⊗ tt ⊗ tt ⊗ tt ⊗ tt ⊗ tt ⊗ tt ⊗ tt ⊗ tt ⊗ tt, refl) ⊗ tt

@@ -15,6 +15,8 @@ pub mod Next
 pub mod Question
 pub mod Run
 pub mod State
+pub mod Tagless
+pub mod Tags
 pub mod TurnedDown
 pub mod Uncovered
 pub mod Walk

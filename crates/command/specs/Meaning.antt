@@ -15,7 +15,7 @@ use Rattle.plan.specs.Modes.{size, modeIn}
 use Rattle.plan.specs.Usable.{leads, target}
 use Rattle.plan.specs.Meaning.{Belongs}
 use Rattle.plan.specs.Reading.{groupsIn, wellShaped}
-use Rattle.command.specs.State.{modeOf, stateFaults}
+use Rattle.command.specs.State.{modeOf, tagOf, stateFaults}
 use Rattle.command.specs.Goal.{Masks, goalMasks, guardMasks, met, allowed}
 use Rattle.command.specs.Attainable.{present, liveGroup}
 
@@ -27,9 +27,9 @@ MachineMeets goal state i = i < length goal → bit (byte goal i) (modeOf state 
 pub record StateRight (m : Model) (plan state : List ℕ) : Type 0 where
   pub below : (k : ℕ) → present m plan state k < size m (groupsIn m plan) k
   pub modes : (k i : ℕ) → Belongs m (groupsIn m plan) i k → modeIn m (groupsIn m plan) k (present m plan state k) i ≡ modeOf state i
-  -- a group is live if each of its machines is in a live mode
+  -- a group is live if each of its machines is in a live mode and has no tag
   pub live : (k : ℕ) → (liveGroup m plan state k ≡ true)
-      ↔ ((i : ℕ) → Belongs m (groupsIn m plan) i k → isLive m i (modeOf state i) ≡ true)
+      ↔ ((i : ℕ) → Belongs m (groupsIn m plan) i k → (isLive m i (modeOf state i) ≡ true) × (tagOf state i ≡ 0))
   -- and met if each is in a mode that is allowed to it
   pub met-by : (masks : Masks) (k : ℕ) → (met (groupsIn m plan) masks state k ≡ true)
       ↔ ((i : ℕ) → Belongs m (groupsIn m plan) i k → bit (getD masks i 255) (modeOf state i) ≡ true)

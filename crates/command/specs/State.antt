@@ -1,9 +1,10 @@
 -- "Wishes, and which are covered": the lent state and goal, with 13 and 14 of "Why a call is turned down".
+-- A state has two bytes for each machine: its mode, then its tag, 1 if nobody may move it, else 0.
 -- In both the length is judged before the bytes.
-use Prim.Native.Nat.{ℕ}
+use Prim.Native.Nat.{ℕ, _*_, _/_}
 use mathlib.Core.List.{List, [], _∷_}
 use mathlib.Core.Bool.{Bool, not, _||_}
-use lib.ListN.{length, getD, set}
+use lib.ListN.{length, getD, set, drop}
 use lib.Dec.{eqb, ltb, leb}
 use Rattle.common.specs.Lists.{upTo, any, find}
 use Rattle.common.specs.Bits.{beyond}
@@ -11,27 +12,47 @@ use Rattle.common.specs.Reply.{Fault, fault}
 use Rattle.sheet.specs.Record.{byte}
 use Rattle.sheet.specs.Model.{Model, machineCount, modeCount}
 
--- the modes of a state, one for each machine: the only reader of a state's bytes
-unfoldable pub modes : List ℕ → List ℕ
-modes state = state
+-- every second byte, from the first on
+unfoldable pub everySecond : List ℕ → List ℕ
+everySecond [] = []
+everySecond (x ∷ []) = x ∷ []
+everySecond (x ∷ y ∷ rest) = x ∷ everySecond rest
 
--- the mode of a machine in a state
+-- how many machines a state is for
+abbrev pub machinesIn : List ℕ → ℕ
+machinesIn state = length state / 2
+
+-- the modes and the tags of a state, one for each machine: the only readers of a state's bytes
+unfoldable pub modes : List ℕ → List ℕ
+modes state = everySecond state
+
+unfoldable pub tags : List ℕ → List ℕ
+tags state = everySecond (drop 1 state)
+
+-- the mode of a machine in a state, and its tag
 abbrev pub modeOf : List ℕ → ℕ → ℕ
 modeOf state i = getD (modes state) i 0
 
+abbrev pub tagOf : List ℕ → ℕ → ℕ
+tagOf state i = getD (tags state) i 0
+
+-- nobody has hung a tag on machine i
+abbrev pub untagged : List ℕ → ℕ → Bool
+untagged state i = eqb (tagOf state i) 0
+
 -- the state with machine i in another mode: the only writer
 unfoldable pub withMode : List ℕ → ℕ → ℕ → List ℕ
-withMode state i mode = set state i mode
+withMode state i mode = set state (2 * i) mode
 
 module _ (m : Model) where
-  -- 13: the length is wrong (place 255), or a mode is absent (place the first such machine)
-  unfoldable pub absentMode : List ℕ → ℕ → Bool
-  absentMode state i = leb (modeCount m i) (modeOf state i)
+  -- 13: the length is wrong (place 255), or a mode is absent or a tag neither 0 nor 1 (place the first such machine)
+  unfoldable pub badPair : List ℕ → ℕ → Bool
+  badPair state i = leb (modeCount m i) (modeOf state i) || leb 2 (tagOf state i)
 
   unfoldable pub stateFaults : List ℕ → List Fault
   stateFaults state =
-      fault 13 255 (not (eqb (length state) (machineCount m)))
-      ∷ fault 13 (find (absentMode state) (upTo (machineCount m)) 0) (any (absentMode state) (upTo (machineCount m)))
+      fault 13 255 (not (eqb (length state) (2 * machineCount m)))
+      ∷ fault 13 (find (badPair state) (upTo (machineCount m)) 0) (any (badPair state) (upTo (machineCount m)))
       ∷ []
 
   -- 14: the goal is too long (place 255), or a byte is empty or beyond (place the first such machine)

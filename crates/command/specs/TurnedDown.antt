@@ -1,6 +1,6 @@
 -- "Why a call is turned down", stated for 13 to 15: which number and place a faulty state, goal or plan gets, and in which
 -- order. The sheet comes first.
-use Prim.Native.Nat.{ℕ, _^_, _≤_, _<_}
+use Prim.Native.Nat.{ℕ, _+_, _*_, _^_, _≤_, _<_}
 use mathlib.Core.Path.{_≡_}
 use mathlib.Core.Logic.{_↔_}
 use mathlib.Core.List.{List}
@@ -11,22 +11,22 @@ use Rattle.sheet.specs.Record.{byte}
 use Rattle.sheet.specs.Model.{Model, machineCount, modeCount}
 use Rattle.sheet.specs.Parse.{Parsed, parse}
 use Rattle.plan.specs.Shape.{Shaped}
-use Rattle.command.specs.State.{modeOf, stateFaults, goalFaults}
+use Rattle.command.specs.State.{stateFaults, goalFaults}
 use Rattle.command.specs.Next.{nextReply}
 use Rattle.command.specs.Apply.{applyReply}
 
 module _ (m : Model) where
-  -- machine i has the mode that the state says
+  -- machine i has the mode that the state says, and is tagged or not
   abbrev pub Present : List ℕ → ℕ → Type 0
-  Present state i = modeOf state i < modeCount m i
+  Present state i = (byte state (2 * i) < modeCount m i) × (byte state (2 * i + 1) < 2)
 
   -- byte i of a goal allows a mode, and none that machine i does not have
   abbrev pub Sensible : List ℕ → ℕ → Type 0
   Sensible goal i = (byte goal i ≡ 0 → ⊥) × (byte goal i < 2 ^ modeCount m i)
 
-  -- a state with a mode for each machine
+  -- a state with a mode and a tag for each machine
   abbrev pub StateFits : List ℕ → Type 0
-  StateFits state = (length state ≡ machineCount m) × ((i : ℕ) → i < machineCount m → Present state i)
+  StateFits state = (length state ≡ 2 * machineCount m) × ((i : ℕ) → i < machineCount m → Present state i)
 
   abbrev pub GoalFits : List ℕ → Type 0
   GoalFits goal = (length goal ≤ machineCount m) × ((i : ℕ) → i < length goal → Sensible goal i)
@@ -47,8 +47,8 @@ pub record FirstWrong (Right : ℕ → Type 0) (n place : ℕ) : Type 0 where
 -- Next command, for a sheet that passes: 15 for the shape, then 13, then 14, the length before the bytes.
 pub record NextTurnedDown (m : Model) (sheet plan state goal : List ℕ) : Type 0 where
   pub shape : (Shaped m plan → ⊥) → nextReply sheet plan state goal ≡ refused 15 0
-  pub state-length : Shaped m plan → (length state ≡ machineCount m → ⊥) → nextReply sheet plan state goal ≡ refused 13 255
-  pub state-mode : (i : ℕ) → Shaped m plan → length state ≡ machineCount m
+  pub state-length : Shaped m plan → (length state ≡ 2 * machineCount m → ⊥) → nextReply sheet plan state goal ≡ refused 13 255
+  pub state-machine : (i : ℕ) → Shaped m plan → length state ≡ 2 * machineCount m
       → FirstWrong (Present m state) (machineCount m) i → nextReply sheet plan state goal ≡ refused 13 i
   pub goal-length : Shaped m plan → StateFits m state → machineCount m < length goal
       → nextReply sheet plan state goal ≡ refused 14 255
@@ -57,8 +57,8 @@ pub record NextTurnedDown (m : Model) (sheet plan state goal : List ℕ) : Type 
 
 -- Applying, for a sheet that passes: 13.
 pub record ApplyTurnedDown (m : Model) (sheet state : List ℕ) (machine command : ℕ) : Type 0 where
-  pub state-length : (length state ≡ machineCount m → ⊥) → applyReply sheet state machine command ≡ refused 13 255
-  pub state-mode : (i : ℕ) → length state ≡ machineCount m → FirstWrong (Present m state) (machineCount m) i
+  pub state-length : (length state ≡ 2 * machineCount m → ⊥) → applyReply sheet state machine command ≡ refused 13 255
+  pub state-machine : (i : ℕ) → length state ≡ 2 * machineCount m → FirstWrong (Present m state) (machineCount m) i
       → applyReply sheet state machine command ≡ refused 13 i
 
 abbrev pub TurnedDown : Type 0

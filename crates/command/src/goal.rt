@@ -99,7 +99,7 @@ pub fn unmet(masks: &[u8], state: &[u8], numbers: &[u8]) -> u64
 {
     let mut r: u64 = 0;
     let mut i: usize = 0;
-    while i < state.len() {
+    while i < numbers.len() {
         let m = Machine(i as u8);
         let k = group_of(numbers, m);
         r = sets::put_if(r, wide(k.0), !has_mode(masks[i], mode_of(state, m)));

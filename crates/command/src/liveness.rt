@@ -1,5 +1,6 @@
 // Which groups are live, as 16 judges it.
 use crate::state::mode_of;
+use crate::state::tag_of;
 use plan::sizing::group_of;
 use sheet::bits::has_mode;
 use sheet::index::Machine;
@@ -11,7 +12,7 @@ ghost use Rattle.common.specs.Lists.{pad};
 ghost use Rattle.sheet.specs.Model.{Model};
 ghost use Rattle.command.specs.Question.{Placed, FailedSet};
 
-// The groups that are not live: a machine of theirs is in a mode that is out of order.
+// The groups that are not live: a machine of theirs is in a mode that is out of order, or tagged.
 pub fn failed(state: &[u8], live: &[u8], numbers: &[u8]) -> u64
     requires { ⌜ ((m : Model) × (plan : List ℕ) × Placed m plan (now state) (now numbers) × (now live ≡ pad 32 (m .live))) ⌝ }
     ensures { λ r. ⌜ ((m : Model) (plan : List ℕ) → Placed m plan (now (state .entry)) (now (numbers .entry))
@@ -19,10 +20,12 @@ pub fn failed(state: &[u8], live: &[u8], numbers: &[u8]) -> u64
 {
     let mut r: u64 = 0;
     let mut i: usize = 0;
-    while i < state.len() {
+    while i < numbers.len() {
         let m = Machine(i as u8);
         let k = group_of(numbers, m);
-        r = sets::put_if(r, wide(k.0), !has_mode(live[i], mode_of(state, m)));
+        let at = wide(k.0);
+        r = sets::put_if(r, at, !has_mode(live[i], mode_of(state, m)));
+        r = sets::put_if(r, at, tag_of(state, m) != 0);
         i += 1;
     }
     r

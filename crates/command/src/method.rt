@@ -63,7 +63,7 @@ pub fn prepare(
     let group = Group(k as u8);
     let wanted = meeting(
         b,
-        numbers(facts, state.len()),
+        numbers(facts, state),
         weights(facts),
         zeros,
         group.0,
@@ -109,7 +109,7 @@ pub fn fulfil(
     }
     let start = bodies[v] as usize;
     let b = body(file, start - 4);
-    let own = numbers(facts, state.len());
+    let own = numbers(facts, state);
     let held = held_up(b, state, own);
     if !from_now(b, state, own, group) || sets::has(held, wide(group.0)) {
         return Advice::Refused(Cause::BadPlan, 0);

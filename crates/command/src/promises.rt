@@ -8,6 +8,8 @@ ghost use Rattle.command.specs.Cases.{AllHold, cases};
 ghost use Rattle.command.specs.Covered.{CoveredExactly};
 ghost use Rattle.command.specs.Meaning.{GoalsRight, MovesRight, StatesRight};
 ghost use Rattle.command.specs.Method.{MethodFollowed};
+ghost use Rattle.command.specs.Tagless.{TaglessSame};
+ghost use Rattle.command.specs.Tags.{LaidOut, NeverTagged};
 ghost use Rattle.command.specs.TurnedDown.{GoalPasses, SheetBefore, StatePasses, TurnedDown};
 ghost use Rattle.command.specs.Uncovered.{UncoveredRefused};
 ghost use Rattle.command.specs.Walked.{WalksRight};
@@ -23,7 +25,7 @@ pub fn sheet_comes_first()
     ensures { λ _. ⌜ SheetBefore ⌝ }
 {}
 
-// A state passes 13 exactly if it has a mode for each machine, and the machine has it.
+// A state passes 13 exactly if it has a mode and a tag for each machine, the machine has the mode, and the tag is 0 or 1.
 pub fn states_pass()
     ensures { λ _. ⌜ StatePasses ⌝ }
 {}
@@ -46,6 +48,11 @@ pub fn states_are_right()
 // A goal allows a machine what its byte or the move's need says, and any mode where there is none.
 pub fn goals_are_right()
     ensures { λ _. ⌜ GoalsRight ⌝ }
+{}
+
+// The mode of a machine is byte 2 i of a state, its tag byte 2 i + 1.
+pub fn states_are_laid_out()
+    ensures { λ _. ⌜ LaidOut ⌝ }
 {}
 
 // A move leads to the group mode in which its machine alone has changed.
@@ -81,6 +88,16 @@ pub fn uncovered_is_refused()
 // Demand 2, on commands: under any plan in shape, the reply for a covered goal is what the method picks, and that alone.
 pub fn method_is_followed()
     ensures { λ _. ⌜ MethodFollowed ⌝ }
+{}
+
+// No command is sent to a tagged machine, under any plan.
+pub fn tagged_machines_stay()
+    ensures { λ _. ⌜ NeverTagged ⌝ }
+{}
+
+// A state with no tags gets the replies that its modes alone would get.
+pub fn tagless_is_the_same()
+    ensures { λ _. ⌜ TaglessSame ⌝ }
 {}
 
 // Any plan that has the laws of a plan earns arrival.

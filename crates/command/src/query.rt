@@ -1,9 +1,11 @@
 // The facts of a question, in one array of bytes that is lent on: a struct would be copied at each call.
+use crate::state::machines_in;
 use plan::sizing::Group;
 use sheet::record::wide;
 ghost use mathlib.Core.Path.{_≡_};
 ghost use Prim.Native.Nat.{ℕ, _≤_, _<_};
 ghost use lib.ListN.{length, getD};
+ghost use Rattle.command.specs.State.{machinesIn};
 ghost use Rattle.command.specs.Question.{numbersIn, weightsIn, sizeIn, presentIn};
 
 // Each machine's group and weight, each group's size and present mode: 32 bytes each.
@@ -27,11 +29,12 @@ pub fn gathered(numbers: &[u8], weights: &[u8], sizes: &[u8], present: &[u8]) ->
     r
 }
 
-// The groups of n machines.
-pub fn numbers(facts: &[u8], n: usize) -> &[u8]
-    requires { ⌜ (length (now facts) ≡ 128) × (n ≤ 32) ⌝ }
-    ensures { λ r. ⌜ now r ≡ numbersIn (now (facts .entry)) n ⌝ }
+// The groups of the machines that a state is for.
+pub fn numbers<'a>(facts: &'a [u8], state: &[u8]) -> &'a [u8]
+    requires { ⌜ (length (now facts) ≡ 128) × (machinesIn (now state) ≤ 32) ⌝ }
+    ensures { λ r. ⌜ now r ≡ numbersIn (now (facts .entry)) (machinesIn (now (state .entry))) ⌝ }
 {
+    let n = machines_in(state);
     &facts[..n]
 }
 

@@ -1,4 +1,4 @@
-// The lent state: a mode for each machine (13), and the mode that each group is in.
+// The lent state: a mode and a tag for each machine (13), and the mode that each group is in.
 use sheet::index::Machine;
 use sheet::record::byte_at;
 use sheet::record::wide;
@@ -6,7 +6,7 @@ use sheet::refusal::Cause;
 use sheet::refusal::Verdict;
 ghost use mathlib.Core.Path.{_≡_};
 ghost use mathlib.Core.Bool.{true};
-ghost use Prim.Native.Nat.{ℕ, _≤_, _<_};
+ghost use Prim.Native.Nat.{ℕ, _*_, _≤_, _<_};
 ghost use lib.ListN.{length, getD, set};
 ghost use Rattle.common.specs.Lists.{upTo, find};
 ghost use Rattle.common.specs.Reply.{given, unless, clear};
@@ -16,36 +16,51 @@ ghost use Rattle.plan.specs.Groups.{groupCount};
 ghost use Rattle.plan.specs.Modes.{modeNumber};
 ghost use Rattle.plan.specs.ModeSets.{Weighed};
 ghost use Rattle.plan.specs.Outline.{verdictSays};
-ghost use Rattle.command.specs.State.{modes, modeOf, withMode, absentMode, stateFaults};
+ghost use Rattle.command.specs.State.{machinesIn, modes, modeOf, tagOf, withMode, badPair, stateFaults};
 
 // The place of 13 and 14 where a length is wrong.
 pub const LENGTH: usize = 255;
 
-// The mode of a machine: the only reader of a state's bytes.
+// How many machines a state is for.
+pub fn machines_in(state: &[u8]) -> usize
+    ensures { λ r. ⌜ r ≡ machinesIn (now (state .entry)) ⌝ }
+{
+    state.len() / 2
+}
+
+// The mode of a machine: with its tag the only reader of a state's bytes.
 pub fn mode_of(state: &[u8], m: Machine) -> u8
     ensures { λ r. ⌜ r ≡ modeOf (now (state .entry)) (m .0) ⌝ }
 {
-    byte_at(state, wide(m.0))
+    byte_at(state, 2 * wide(m.0))
+}
+
+// The tag of a machine: 1 if nobody may move it, else 0.
+pub fn tag_of(state: &[u8], m: Machine) -> u8
+    ensures { λ r. ⌜ r ≡ tagOf (now (state .entry)) (m .0) ⌝ }
+{
+    byte_at(state, 2 * wide(m.0) + 1)
 }
 
 // Puts a machine into a mode: the only writer.
 pub fn put_mode(state: &mut [u8], m: Machine, mode: u8)
-    requires { ⌜ m .0 < length (now state) ⌝ }
+    requires { ⌜ 2 * m .0 < length (now state) ⌝ }
     ensures { λ _. ⌜ now (state .exit) ≡ withMode (now (state .entry)) (m .0) mode ⌝ }
 {
-    let i = wide(m.0);
+    let i = 2 * wide(m.0);
     state[i] = mode;
 }
 
-// The first of n machines whose mode is absent, or n.
-fn first_absent(state: &[u8], modes: &[u8], n: usize) -> usize
+// The first of n machines whose mode is absent or whose tag is neither 0 nor 1, or n.
+fn first_bad(state: &[u8], modes: &[u8], n: usize) -> usize
     requires { ⌜ (n ≤ 32) × (length (now modes) ≡ 32) ⌝ }
     ensures { λ r. ⌜ ((m : Model) → CountsOf m (now (modes .entry))
-        → r ≡ find (absentMode m (now (state .entry))) (upTo n) n) ⌝ }
+        → r ≡ find (badPair m (now (state .entry))) (upTo n) n) ⌝ }
 {
     let mut i: usize = 0;
     while i < n {
-        if modes[i] <= mode_of(state, Machine(i as u8)) {
+        let m = Machine(i as u8);
+        if modes[i] <= mode_of(state, m) || 2 <= tag_of(state, m) {
             return i;
         }
         i += 1;
@@ -59,12 +74,12 @@ pub fn check(state: &[u8], modes: &[u8], n: usize) -> Verdict
     ensures { λ r. ⌜ ((m : Model) → CountsOf m (now (modes .entry)) → n ≡ machineCount m
         → verdictSays r ≡ unless (stateFaults m (now (state .entry))) (given tt)) ⌝ }
 {
-    if state.len() != n {
+    if state.len() != 2 * n {
         return Verdict::Refused(Cause::BadState, LENGTH);
     }
-    let absent = first_absent(state, modes, n);
-    if absent < n {
-        return Verdict::Refused(Cause::BadState, absent);
+    let bad = first_bad(state, modes, n);
+    if bad < n {
+        return Verdict::Refused(Cause::BadState, bad);
     }
     Verdict::Accepted
 }

@@ -72,7 +72,7 @@ pub fn print_walk(file: &[u8], state: &mut [u8], goal: &[u8]) {
 // Prints the walk of the files here. No longer file has another reply than the bytes that are read of it.
 pub fn walk() {
     let mut file = [0u8; 73728];
-    let mut state = [0u8; 64];
+    let mut state = [0u8; 128];
     let mut goal = [0u8; 64];
     let n = load(b"sheet.bin", &mut file);
     let machines = load(b"state.bin", &mut state);

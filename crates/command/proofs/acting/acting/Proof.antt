@@ -1,10 +1,11 @@
 use Prim.Native.Nat.{_-_, _<_}
+use mathlib.Core.Path.{sym, _∙_}
 use native.Mathlib.Omega.{arith}
 use borrow.Author.Needs.{needs}
 use Rattle.sheet.specs.Model.{Model}
 use Rattle.sheet.specs.Index.{Indexes}
 use Rattle.plan.proofs.MoveTurns.{turn-place, turn-behind}
-use Rattle.command.proofs.ActingLoops.{Unanswered, unanswered-none, unanswered-next, unanswered-end}
+use Rattle.command.proofs.ActingLoops.{Unanswered, unanswered-none, unanswered-tagged, unanswered-next, unanswered-end}
 use Rattle.command.proofs.ActingLoops.{turn-head, answered-here}
 use Rattle.command.proofs.acting.acting.Statement.{statement}
 use Rattle.command.proofs.acting.acting.Tie as tie
@@ -14,6 +15,12 @@ Inv-loop file state m command sheet mode v₀ v = (d : Model) → Indexes file s
 
 abbrev μ-loop : tie.MeasureT-loop
 μ-loop file state m command sheet mode v₀ v = sheet .moves - v
+
+tag-of-requires : tie.Need-tag-of-requires Inv-loop μ-loop
+tag-of-requires c κs = search needs
+
+returns : tie.Need-returns Inv-loop μ-loop
+returns c d i = unanswered-tagged d _ _ _ (c .before .tag-of .ensures) (c .if1 .taken)
 
 mode-of-requires : tie.Need-mode-of-requires Inv-loop μ-loop
 mode-of-requires c κs = search needs
@@ -42,12 +49,14 @@ answers-requires c κs = search turn-head
 cast-result : tie.Need-cast-result Inv-loop μ-loop
 cast-result c = let l : c .before .before .before .before .before .loop .v < 250 = search turn-place in omega arith
 
-returns : tie.Need-returns Inv-loop μ-loop
-returns c d i =
+returns-2 : tie.Need-returns-2 Inv-loop μ-loop
+returns-2 c d i =
     let at-body = c .before .before in
     let at-test = at-body .before .before in
-    answered-here i (at-test .before .before .mode-of .ensures) (at-test .before .loop .inv d i)
-    (at-test .loop-test .taken) (at-body .body .ensures) (c .before .answers .ensures) (c .if1 .taken)
+    let at-mode = at-test .before .before in
+    let free = sym (at-mode .before .before .tag-of .ensures) ∙ at-mode .before .if1 .left in
+    answered-here i free (at-mode .mode-of .ensures) (at-test .before .loop .inv d i)
+    (at-test .loop-test .taken) (at-body .body .ensures) (c .before .answers .ensures) (c .if2 .taken)
 
 add-v : tie.Need-add-v Inv-loop μ-loop
 add-v c = let l : c .before .before .before .before .before .loop .v < 250 = search turn-place in omega arith
@@ -59,11 +68,13 @@ loop-again : tie.Need-loop-again Inv-loop μ-loop
 loop-again c d i =
     let at-body = c .before .before in
     let at-test = at-body .before .before in
-    unanswered-next i (at-test .before .before .mode-of .ensures) (at-test .before .loop .inv d i)
-    (at-test .loop-test .taken) (at-body .body .ensures) (c .before .answers .ensures) (c .if1 .left)
+    let at-mode = at-test .before .before in
+    let free = sym (at-mode .before .before .tag-of .ensures) ∙ at-mode .before .if1 .left in
+    unanswered-next i free (at-mode .mode-of .ensures) (at-test .before .loop .inv d i)
+    (at-test .loop-test .taken) (at-body .body .ensures) (c .before .answers .ensures) (c .if2 .left)
 
-returns-2 : tie.Need-returns-2 Inv-loop μ-loop
-returns-2 c d i = unanswered-end i (c .before .loop .inv d i) (c .loop-test .left)
+returns-3 : tie.Need-returns-3 Inv-loop μ-loop
+returns-3 c d i = unanswered-end i (c .before .loop .inv d i) (c .loop-test .left)
 
 pub acting-spec : {M : Type 1} → statement M
 acting-spec =
@@ -71,6 +82,8 @@ acting-spec =
     (tie.spec
     Inv-loop
     μ-loop
+    tag-of-requires
+    returns
     mode-of-requires
     loop-holds
     mul-start
@@ -80,8 +93,8 @@ acting-spec =
     body-requires
     answers-requires
     cast-result
-    returns
+    returns-2
     add-v
     loop-less
     loop-again
-    returns-2)
+    returns-3)

@@ -101,8 +101,8 @@ highest-requires : tie.Need-highest-requires
 highest-requires c κs =
     start (c .before .before .before .before .before .before .before .before .before .before) .pre .1
 
-cast-t28 : tie.Need-cast-t28
-cast-t28 c = search needs
+cast-t27 : tie.Need-cast-t27
+cast-t27 c = search needs
 
 mul-fulfil : tie.Need-mul-fulfil
 mul-fulfil c = search needs
@@ -197,7 +197,7 @@ pursue-spec =
     enum-known-verdict
     enum-told
     highest-requires
-    cast-t28
+    cast-t27
     mul-fulfil
     array-read-fulfil
     fulfil-requires

@@ -3,18 +3,18 @@ use native.Mathlib.Omega.{arith}
 use lib.ListN.{length}
 use borrow.Author.Needs.{needs}
 use Rattle.command.proofs.Placing.{placed-few, placed-number}
-use Rattle.command.proofs.MaskLoop.{LackingUpto, lacking-none, lacking-next, unmet-end}
+use Rattle.command.proofs.MaskLoop.{UnmetUpto, unmet-none, unmet-next, unmet-end}
 use Rattle.command.proofs.goal.unmet.Statement.{statement}
 use Rattle.command.proofs.goal.unmet.Tie as tie
 
 abbrev Inv-loop : tie.InvT-loop
-Inv-loop masks state numbers r₀ i₀ r i = LackingUpto state masks numbers i r
+Inv-loop masks state numbers r₀ i₀ r i = UnmetUpto state masks numbers i r
 
 abbrev μ-loop : tie.MeasureT-loop
-μ-loop masks state numbers r₀ i₀ r i = length state - i
+μ-loop masks state numbers r₀ i₀ r i = length numbers - i
 
 loop-holds : tie.Need-loop-holds Inv-loop μ-loop
-loop-holds c = lacking-none _ _ _
+loop-holds c = unmet-none _ _ _
 
 cast-has-mode : tie.Need-cast-has-mode Inv-loop μ-loop
 cast-has-mode c = let (m, plan, p) = c .before .before .before .before .before .pre .0 in omega (arith, placed-few p)
@@ -54,7 +54,7 @@ loop-less c = search needs
 
 loop-again : tie.Need-loop-again Inv-loop μ-loop
 loop-again c =
-    lacking-next _ _ _
+    unmet-next _ _ _
     (c .before .before .before .before .before .before .before .loop .inv)
     (c .before .before .before .before .before .before .loop-test .taken)
     (c .before .before .before .before .before .group-of .ensures)

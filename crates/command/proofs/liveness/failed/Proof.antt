@@ -3,18 +3,18 @@ use native.Mathlib.Omega.{arith}
 use lib.ListN.{length}
 use borrow.Author.Needs.{needs}
 use Rattle.command.proofs.Placing.{placed-few, placed-live, placed-number}
-use Rattle.command.proofs.MaskLoop.{LackingUpto, lacking-none, lacking-next, failed-end}
+use Rattle.command.proofs.MaskLoop.{FailedUpto, failed-none, failed-next, failed-end}
 use Rattle.command.proofs.liveness.failed.Statement.{statement}
 use Rattle.command.proofs.liveness.failed.Tie as tie
 
 abbrev Inv-loop : tie.InvT-loop
-Inv-loop state live numbers r₀ i₀ r i = LackingUpto state live numbers i r
+Inv-loop state live numbers r₀ i₀ r i = FailedUpto state live numbers i r
 
 abbrev μ-loop : tie.MeasureT-loop
-μ-loop state live numbers r₀ i₀ r i = length state - i
+μ-loop state live numbers r₀ i₀ r i = length numbers - i
 
 loop-holds : tie.Need-loop-holds Inv-loop μ-loop
-loop-holds c = lacking-none _ _ _
+loop-holds c = failed-none _ _ _
 
 cast-has-mode : tie.Need-cast-has-mode Inv-loop μ-loop
 cast-has-mode c = let (m, plan, p, s) = c .before .before .before .before .before .pre in omega (arith, placed-few p)
@@ -46,6 +46,12 @@ put-if-requires c κs =
       c .before .before .before .before .group-of .ensures,
     )
 
+tag-of-requires : tie.Need-tag-of-requires Inv-loop μ-loop
+tag-of-requires c κs = search needs
+
+put-if-requires-2 : tie.Need-put-if-requires-2 Inv-loop μ-loop
+put-if-requires-2 c κs = put-if-requires (c .before .before) κs
+
 add-i : tie.Need-add-i Inv-loop μ-loop
 add-i c = search needs
 
@@ -54,14 +60,19 @@ loop-less c = search needs
 
 loop-again : tie.Need-loop-again Inv-loop μ-loop
 loop-again c =
-    lacking-next _ _ _
-    (c .before .before .before .before .before .before .before .loop .inv)
-    (c .before .before .before .before .before .before .loop-test .taken)
-    (c .before .before .before .before .before .group-of .ensures)
-    (c .before .before .before .before .wide .ensures .0)
-    (c .before .before .mode-of .ensures)
-    (c .before .has-mode .ensures)
-    (c .put-if .ensures)
+    let at-put = c .before .before in
+    let at-mode = at-put .before .before in
+    let at-group = at-mode .before .before .before in
+    failed-next _ _ _ _
+    (at-group .before .before .loop .inv)
+    (at-group .before .loop-test .taken)
+    (at-group .group-of .ensures)
+    (at-mode .before .before .wide .ensures .0)
+    (at-mode .mode-of .ensures)
+    (at-put .before .has-mode .ensures)
+    (at-put .put-if .ensures)
+    (c .before .tag-of .ensures)
+    (c .put-if2 .ensures)
 
 returns : tie.Need-returns Inv-loop μ-loop
 returns c = search failed-end
@@ -80,6 +91,8 @@ failed-spec =
     mode-of-requires
     has-mode-requires
     put-if-requires
+    tag-of-requires
+    put-if-requires-2
     add-i
     loop-less
     loop-again

@@ -10,9 +10,10 @@ use lib.ListN.{length}
 use Rattle.common.specs.Bits.{bit}
 use Rattle.sheet.specs.Record.{byte}
 use Rattle.plan.specs.Groups.{groupOf}
+use Rattle.command.specs.State.{machinesIn}
 use Rattle.command.specs.Question.{numbersIn}
 use Rattle.command.proofs.Looked.{kept-group, kept-fits}
-use Rattle.command.proofs.Placing.{placed-few, placed-count, kept-placed, kept-held}
+use Rattle.command.proofs.Placing.{placed-known, placed-count, kept-placed, kept-held}
 use Rattle.command.proofs.Startable.{listed-there, listed-behind, listed-long, listed-move, listed-valid}
 use Rattle.command.proofs.Startable.{entry-far, entry-absent, entry-elsewhere, entry-held}
 use Rattle.command.proofs.Startable.{entry-own, entry-outside, entry-prepares}
@@ -49,7 +50,7 @@ abbrev μ-prepare : Measures 8 prepare-kinds.ps ℕ
     let state = a .1 .1 .1 .1 .0 .now in
     let facts = a .1 .1 .1 .1 .1 .0 .now in
     let body = a .1 .1 .1 .1 .1 .1 .1 .0 .now in
-    2 * groupOf (numbersIn facts (length state)) (byte body 0)
+    2 * groupOf (numbersIn facts (machinesIn state)) (byte body 0)
 
 abbrev fulfil-at : ℕ → In 7 fulfil-kinds.ps
 fulfil-at t = and 7 fulfil-kinds.ps (is 7 fulfil-kinds.ps μ-fulfil t) fulfil.Pre
@@ -144,7 +145,7 @@ fulfil-numbers-requires : (t : ℕ) → fulfil-lts.Need-numbers-requires (fulfil
 fulfil-numbers-requires t c κs =
     let led = c .before .before .before .before .before .before in
     let kept = led .before .before .before .before .before .before .before .before .pre .1 .2 in
-    (kept .long, placed-few (kept .placed))
+    (kept .long, placed-known (kept .placed))
 
 fulfil-held-up-requires : (t : ℕ) → fulfil-lts.Need-held-up-requires (fulfil-calls t) (fulfil-at t) fulfil.Post
 fulfil-held-up-requires t c κs =
@@ -255,7 +256,7 @@ prepare-numbers-requires : (t : ℕ) → prepare-lts.Need-numbers-requires (prep
 prepare-numbers-requires t c κs =
     let start = c .before .before .before .before .before .before .before .before .before .before in
     let kept = start .pre .1 .0 .1 in
-    (kept .long, placed-few (kept .placed))
+    (kept .long, placed-known (kept .placed))
 
 prepare-weights-requires : (t : ℕ) → prepare-lts.Need-weights-requires (prepare-calls t) (prepare-at t) prepare.Post
 prepare-weights-requires t c κs =

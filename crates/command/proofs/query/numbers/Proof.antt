@@ -1,19 +1,24 @@
-use mathlib.Core.Path.{refl}
-use lib.ListN.{length-take}
+use mathlib.Core.Path.{ap}
+use lib.ListN.{take, length-take}
 use Rattle.sheet.specs.Record.{part}
 use Rattle.command.specs.Question.{numbersIn}
 use native.Mathlib.Omega.{arith}
+use borrow.Author.Needs.{needs}
 use Rattle.command.proofs.query.numbers.Statement.{statement}
 use Rattle.command.proofs.query.numbers.Tie as tie
 
+machines-in-requires : tie.Need-machines-in-requires
+machines-in-requires c κs = search needs
+
 slice-aggregate-result : tie.Need-slice-aggregate-result
 slice-aggregate-result c =
-    let e = length-take (c .before .args .n) (c .before .args .facts .now) in
-    omega (arith, e, c .before .pre .0, c .before .pre .1)
+    let start = c .before .before .before .before in
+    let e = length-take (c .before .machines-in .result) (start .args .facts .now) in
+    omega (arith, e, start .pre .0, start .pre .1, c .before .machines-in .ensures)
 
 returns : tie.Need-returns
 unfolding numbersIn part
-returns c = refl
+returns c = ap (λ n. take n (c .before .before .before .before .args .facts .now)) (c .before .machines-in .ensures)
 
 pub numbers-spec : {M : Type 1} → statement M
-numbers-spec = tie.close (tie.spec slice-aggregate-result returns)
+numbers-spec = tie.close (tie.spec machines-in-requires slice-aggregate-result returns)

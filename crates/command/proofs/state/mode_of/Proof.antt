@@ -1,19 +1,24 @@
-use mathlib.Core.Path.{ap, _∙_}
-use lib.ListN.{getD}
-use Rattle.command.specs.State.{modes}
+use Prim.Native.Nat.{_*_}
+use mathlib.Core.Path.{sym, ap, _∙_}
 use borrow.Author.Needs.{needs}
+use Rattle.sheet.specs.Record.{byte}
+use Rattle.command.proofs.States.{mode-byte}
 use Rattle.command.proofs.state.mode_of.Statement.{statement}
 use Rattle.command.proofs.state.mode_of.Tie as tie
 
 wide-requires : tie.Need-wide-requires
 wide-requires c κs = search needs
 
+mul-byte-at : tie.Need-mul-byte-at
+mul-byte-at c = search needs
+
 byte-at-requires : tie.Need-byte-at-requires
 byte-at-requires c κs = search needs
 
 returns : tie.Need-returns
-unfolding modes
-returns c = c .byte-at .ensures ∙ ap (λ i. getD (c .before .before .before .args .state .now) i 0) (c .before .wide .ensures .0)
+returns c =
+    let state = c .before .before .before .args .state .now in
+    c .byte-at .ensures ∙ ap (λ i. byte state (2 * i)) (c .before .wide .ensures .0) ∙ sym (mode-byte state _)
 
 pub mode-of-spec : {M : Type 1} → statement M
-mode-of-spec = tie.close (tie.spec wide-requires byte-at-requires returns)
+mode-of-spec = tie.close (tie.spec wide-requires mul-byte-at byte-at-requires returns)
