@@ -44,9 +44,12 @@ class Kitchen:
         machines = [record(1, bytes([len(m), (1 << len(m)) - 1])) for _, m in self.machines]
         return b"".join(machines + [record(2, move) for move in self.moves] + [record(3)])
 
-    def state(self, **modes):
-        """Every machine in its first mode but for those named."""
-        return bytes(m.index(modes.get(name, m[0])) for name, m in self.machines)
+    def state(self, tagged="", **modes):
+        """Mode and tag of every machine: in its first mode but for those named, with a tag on those that `tagged` names,
+        words in one string."""
+        tags = {self.names.index(name) for name in tagged.split()}
+        pairs = [(m.index(modes.get(name, m[0])), int(i in tags)) for i, (name, m) in enumerate(self.machines)]
+        return b"".join(map(bytes, pairs))
 
     def wish(self, **modes):
         """Every machine in any mode but for those named."""
@@ -215,6 +218,11 @@ def bad_morning(k):
     return k.state(kettle_2="heating", oven_2="heating", steamer="moist", washer="washing")
 
 
+def night(k, tagged=""):
+    """Supplies turned down, the cold room cooling, the rest off."""
+    return k.state(tagged, water="half", gas="pilot", power="night", cold_room="cooling")
+
+
 def breakfast(k):
     """Hot and ready to serve, with the supplies at night again."""
     return k.wish(water="half", gas="pilot", power="night", hood="off", softener="idle", draught="low", boiler="off",
@@ -230,7 +238,8 @@ def walk(name, k, state, wish):
 
 
 def walks():
-    """The walk's cases of document 01, a bad morning and a sheet that cannot be planned."""
+    """The walk's cases of document 01, a bad morning, a sheet that cannot be planned, and two tags: one on a machine that
+    is needed, one on a machine that is not."""
     s, k, f, d = stove(), kitchen(), filter_and_pan(), dials(6)
     return {
         **walk("case_3", s, s.state(), s.wish(board="off", fan="on", burner="lit")),
@@ -241,6 +250,8 @@ def walks():
         **walk("case_8", f, f.state(), f.wish(filter="fresh", pan="on")),
         **walk("six_dials", d, d.state(), d.wish(dial_5="7")),
         **walk("bad_morning", k, bad_morning(k), breakfast(k)),
+        **walk("tagged", s, s.state(tagged="board", board="on"), s.wish(fan="on")),
+        **walk("tag_aside", k, night(k, tagged="range"), k.wish(oven_1="holding", oven_2="heating")),
     }
 
 
@@ -249,13 +260,12 @@ def files():
     lunch = k.wish(kettle_1="holding", kettle_2="holding", oven_1="holding", oven_2="heating",
                    steamer="moist", range="low", cabinet="hot", plates="hot", washer="empty",
                    cold_room="cooling", belt="fast")
-    night = k.state(water="half", gas="pilot", power="night", cold_room="cooling")
     return {
         "stove/sheet.bin": s.sheet(),
         "stove/state.bin": s.state(),
         "stove/wish.bin": s.wish(board="off", fan="on", burner="lit"),
         "kitchen/sheet.bin": k.sheet(),
-        "kitchen/state.bin": night,
+        "kitchen/state.bin": night(k),
         "kitchen/wish.bin": lunch,
         "two_cooks/sheet.bin": s.sheet(),
         "two_cooks/state.bin": s.state(),

@@ -1,5 +1,7 @@
 /* A wall panel to start from: draws who needs whom in a kitchen's sheet, plans it,
- * then asks for the next command and obeys it until the wish is met.
+ * then asks for the next command and obeys it until the wish is met. To show what
+ * a tag does, one hangs on the first machine that is to move until the panel has
+ * asked once more.
  *
  *     rt staticlib panel
  *     gcc -std=c11 -Wall -Wextra -Werror -Iinclude examples/panel.c \
@@ -132,7 +134,7 @@ static const struct cause {
     [13] = {MACHINE, "the state does not fit"},
     [14] = {MACHINE, "the wish does not fit"},
     [15] = {NOWHERE, "the plan does not fit the sheet"},
-    [16] = {MACHINE, "its group is out of order, and the wish needs it"},
+    [16] = {MACHINE, "its group is out of order or tagged, and the wish needs it"},
     [17] = {MACHINE, "its group has no way to what is wished"},
     [18] = {MACHINE, "its group could be stranded on the way"},
     [19] = {MACHINE, "the wishes leave it no mode"},
@@ -278,12 +280,47 @@ static uint64_t ask(const struct kitchen *k)
                      k->state.at, k->state.n, k->wish.at, k->wish.n);
 }
 
+/* Whether a reply is a command. */
+static bool sends(uint64_t reply)
+{
+    return duty_refusal(reply) == 0 && duty_value(reply) != 0;
+}
+
+/* The machine of a command. */
+static uint8_t machine_of(uint32_t value)
+{
+    return (uint8_t)(value / 256);
+}
+
+/* Hangs a tag on a machine. */
+static void hang(struct kitchen *k, uint8_t machine)
+{
+    k->state.at[duty_tag_at(machine)] = 1;
+    printf("machine %u: tag hung\n", machine);
+}
+
+/* Lifts the tag of a machine. */
+static void lift(struct kitchen *k, uint8_t machine)
+{
+    k->state.at[duty_tag_at(machine)] = 0;
+    printf("machine %u: tag lifted\n", machine);
+}
+
+/* Someone cleans the machine that is to move: while its tag hangs, the wish is
+ * refused. A panel on the wall would wait here until the tag is lifted. */
+static void clean(struct kitchen *k, uint8_t machine)
+{
+    hang(k, machine);
+    refused(ask(k));
+    lift(k, machine);
+}
+
 /* Makes a command happen and says which move it was. A panel on the wall would
  * send it to the machine and read the state anew. The commands of a sheet's own
  * plan always move a machine. */
 static bool obey(struct kitchen *k, uint32_t value)
 {
-    uint8_t machine = (uint8_t)(value / 256), command = (uint8_t)value;
+    uint8_t machine = machine_of(value), command = (uint8_t)value;
     uint64_t reply = duty_apply(k->sheet.at, k->sheet.n, k->state.at, k->state.n,
                                 machine, command);
     if (refused(reply))
@@ -294,18 +331,26 @@ static bool obey(struct kitchen *k, uint32_t value)
     return true;
 }
 
+/* Says the mode of each machine. */
 static void say_done(const struct kitchen *k, unsigned count)
 {
-    printf("done, commands: %u, state:", count);
-    say_bytes(k->state);
+    printf("done, commands: %u, modes:", count);
+    for (size_t i = 0; i < k->state.n / 2; i++)
+        printf(" %u", k->state.at[duty_mode_at((uint8_t)i)]);
+    printf("\n");
 }
 
-/* Asks and obeys until done. */
+/* Asks and obeys until done. Once a tag is hung or lifted a new run begins, if the
+ * wish is covered then: the panel asks anew. */
 static bool fulfil(struct kitchen *k)
 {
     unsigned count = 0;
     uint64_t reply = ask(k);
-    while (duty_refusal(reply) == 0 && duty_value(reply) != 0) {
+    if (sends(reply)) {
+        clean(k, machine_of(duty_value(reply)));
+        reply = ask(k);
+    }
+    while (sends(reply)) {
         if (!obey(k, duty_value(reply)))
             return false;
         count++;
