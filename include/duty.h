@@ -35,6 +35,10 @@ extern "C" {
 /* The scratch of planning. */
 #define DUTY_SCRATCH 4096
 
+/* The longest state that is accepted, two bytes for each machine: its mode, then
+ * its tag. The tag is 1 while nobody may move the machine, else 0. */
+#define DUTY_STATE_MAX 64
+
 /* The longest wish that is accepted, a byte for each machine. */
 #define DUTY_WISH_MAX 32
 
@@ -57,6 +61,10 @@ static inline uint32_t duty_value(uint64_t reply) { return (uint32_t)reply; }
 /* The move of an accepted duty_apply: its number, or DUTY_NO_MOVE. */
 static inline uint8_t duty_move(uint64_t reply) { return (uint8_t)duty_value(reply); }
 
+/* Where a state has the mode of a machine, and where its tag. */
+static inline size_t duty_mode_at(uint8_t machine) { return 2 * (size_t)machine; }
+static inline size_t duty_tag_at(uint8_t machine) { return 2 * (size_t)machine + 1; }
+
 /* Checks a sheet (refusals 1 to 8). Value: 256 * moves + machines. */
 uint64_t duty_sheet(const uint8_t *sheet, size_t n);
 
@@ -70,15 +78,19 @@ uint64_t duty_plan(const uint8_t *sheet, size_t n, uint8_t *plan, size_t plan_n,
 
 /* The next command toward a wish, for any plan whose shape fits the sheet
  * (refusals 1 to 8, 15, 13, 14, 16 to 18, then 15 for an entry that cannot be
- * followed). All bytes are only read. Value: 0 for done, else 65536 + 256 *
- * machine + command. */
+ * followed). 13 names the first machine with a mode that it does not have or a
+ * tag above 1. 16 is also for a tag in a group that is not as wished, or that such
+ * a group needs, directly or through others: no command is ever sent to a tagged
+ * machine. All bytes are only read. Value: 0 for done, else 65536 + 256 * machine
+ * + command. */
 uint64_t duty_next(const uint8_t *sheet, size_t n, const uint8_t *plan, size_t plan_n,
                    const uint8_t *state, size_t state_n, const uint8_t *wish, size_t wish_n);
 
 /* Applies a command (refusals 1 to 8, 13): the new mode of a machine that
- * changes is written into the lent state. Value: 256 + move if a machine changed,
- * else DUTY_NO_MOVE; duty_move takes the move out of it. Moves are numbered from
- * 0 in the sheet's order. */
+ * changes is written into the lent state. A tagged machine does not change, and
+ * no tag is ever written. Value: 256 + move if a machine changed, else
+ * DUTY_NO_MOVE; duty_move takes the move out of it. Moves are numbered from 0 in
+ * the sheet's order. */
 uint64_t duty_apply(const uint8_t *sheet, size_t n, uint8_t *state, size_t state_n,
                     uint8_t machine, uint8_t command);
 
