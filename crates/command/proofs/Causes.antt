@@ -36,7 +36,7 @@ module _ (m : Model) (plan state : List ℕ) (masks : Masks) where
   abbrev count : ℕ
   count = groupCount (groups m plan)
 
-  concern : (k a : ℕ) → eqb a k || upstreamIn m plan k a ≡ true → Concerns m plan state masks k a
+  pub concern : (k a : ℕ) → eqb a k || upstreamIn m plan k a ≡ true → Concerns m plan state masks k a
   concern k a t = ⊎-elim (λ e. inl (eqb-true _ _ e)) (λ u. inr u) (or-cases (eqb a k) _ t)
 
   concern-test : (k a : ℕ) → Concerns m plan state masks k a → eqb a k || upstreamIn m plan k a ≡ true

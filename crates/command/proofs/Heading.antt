@@ -2,12 +2,10 @@
 -- Assumes nothing.
 use Prim.Native.Nat.{ℕ, zero, suc, _≤_, _<_}
 use mathlib.Core.Path.{_≡_, refl, ap, _∙_}
-use mathlib.Core.Logic.{⊎-elim}
 use mathlib.Core.List.{List, [], _∷_, List·Memᴰ}
 use mathlib.Core.Bool.{true, false}
 use native.Mathlib.Omega.{arith}
 use Rattle.common.proofs.Bools.{true-false}
-use Rattle.common.proofs.Least.{mem-or-not}
 use Rattle.sheet.specs.Model.{Model, moveAt}
 use Rattle.sheet.specs.Valid.{Valid}
 use Rattle.plan.specs.Groups.{groupCount, movesOf, namedOutside}

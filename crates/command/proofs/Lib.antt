@@ -55,6 +55,7 @@ pub mod Stays
 pub mod StrandedLoop
 pub mod Tagless
 pub mod Tags
+pub mod TagsAside
 pub mod Targets
 pub mod Testing
 pub mod TurnedDown

@@ -2,22 +2,21 @@
 -- Assumes nothing.
 use Prim.Native.Nat.{ℕ, zero, suc, _+_, _*_}
 use mathlib.Core.Path.{_≡_, refl, sym, ap, ap₂, fun-ext, _∙_}
-use mathlib.Core.List.{List, [], _∷_, _++_, flatMap}
+use mathlib.Core.List.{List, [], _∷_, flatMap}
 use mathlib.Core.Bool.{cond, and-true, or-false}
 use native.Mathlib.Omega.{arith}
 use borrow.Author.Tests.{eqb-true, eqb-false, eq-eqb, ne-eqb}
 use lib.Dec.{eqb}
-use lib.ListN.{length, getD, set, drop}
-use Rattle.common.specs.Lists.{upTo, all, any, find}
+use lib.ListN.{length, set}
 use Rattle.common.specs.Reply.{Reply, given, refused, Fault, unless, andThen}
 use Rattle.common.proofs.Bools.{by-cases}
 use Rattle.common.proofs.Lists.{all-cong}
 use Rattle.sheet.specs.Record.{byte}
-use Rattle.sheet.specs.Model.{Model, machineCount, moveAt}
+use Rattle.sheet.specs.Model.{Model}
 use Rattle.sheet.specs.Parse.{Parsed, parse}
 use Rattle.plan.specs.Groups.{members}
 use Rattle.plan.specs.Reading.{groupsIn}
-use Rattle.command.specs.State.{everySecond, modes, tags, tagOf, withMode, badPair, stateFaults}
+use Rattle.command.specs.State.{everySecond, modes, tagOf, withMode, badPair, stateFaults}
 use Rattle.command.specs.Goal.{Masks, met}
 use Rattle.command.specs.Attainable.{liveGroup, deadEnd, groupFaults, attainFaults}
 use Rattle.command.specs.Next.{Next, nearest, targetOf, holdsInside, holdsOutside, unfit, prepareBy, followBy, fulfil}
@@ -75,7 +74,7 @@ module _ (m : Model) (plan state : List ℕ) where
       plainOutside plainTarget plainNearest plainPresent
   follow-at f g same masks k = rw same
 
-  plain-fulfil : (masks : Masks) (n : ℕ) → fulfil m plan state masks n ≡ plainFulfil m plan (modes state) masks n
+  pub plain-fulfil : (masks : Masks) (n : ℕ) → fulfil m plan state masks n ≡ plainFulfil m plan (modes state) masks n
   unfolding fulfil met plainFulfil plainMet
   plain-fulfil masks zero = refl
   plain-fulfil masks (suc k) =

@@ -143,7 +143,7 @@ module _ (sheet plan state goal : List ℕ) (d : Parsed) (parses : parse sheet �
       rw (← append-assoc (stateFaults m state) (goalFaults m goal) later)
       (shaped-reply sheet plan state goal d parses shaped)
 
-  state-judged : StateFits m state → nextReply sheet plan state goal
+  pub state-judged : StateFits m state → nextReply sheet plan state goal
       ≡ unless (goalFaults m goal ++ later) (fulfil m plan state (goalMasks m goal) (groupCount (groupsIn m plan)))
   state-judged fits = judged ∙ unless-append-clear (stateFaults m state) _ _ (state-passes m state .1 fits)
 

@@ -8,7 +8,6 @@ use mathlib.Core.Bool.{Bool, true, false, not, _&&_, _||_}
 use native.Mathlib.Omega.{arith}
 use borrow.Author.Tests.{eqb-true, eq-eqb, ltb-true}
 use lib.Dec.{eqb}
-use lib.ListN.{length}
 use Rattle.common.specs.Bits.{bit}
 use Rattle.common.specs.Lists.{all, any}
 use Rattle.common.specs.Reply.{Reply, given}

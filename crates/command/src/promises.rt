@@ -9,7 +9,7 @@ ghost use Rattle.command.specs.Covered.{CoveredExactly};
 ghost use Rattle.command.specs.Meaning.{GoalsRight, MovesRight, StatesRight};
 ghost use Rattle.command.specs.Method.{MethodFollowed};
 ghost use Rattle.command.specs.Tagless.{TaglessSame};
-ghost use Rattle.command.specs.Tags.{LaidOut, NeverTagged};
+ghost use Rattle.command.specs.Tags.{LaidOut, NeverTagged, TagsAside};
 ghost use Rattle.command.specs.TurnedDown.{GoalPasses, SheetBefore, StatePasses, TurnedDown};
 ghost use Rattle.command.specs.Uncovered.{UncoveredRefused};
 ghost use Rattle.command.specs.Walked.{WalksRight};
@@ -93,6 +93,11 @@ pub fn method_is_followed()
 // No command is sent to a tagged machine, under any plan.
 pub fn tagged_machines_stay()
     ensures { λ _. ⌜ NeverTagged ⌝ }
+{}
+
+// A tag on a machine that no unmet group needs, and that is of none, hinders nothing.
+pub fn tags_aside_hinder_nothing()
+    ensures { λ _. ⌜ TagsAside ⌝ }
 {}
 
 // A state with no tags gets the replies that its modes alone would get.

@@ -6,7 +6,6 @@ use borrow.Author.Needs.{needs}
 use borrow.Author.Tests.{leb-true, leb-false, not-true, not-false}
 use borrow.Fn.Kinds.{In}
 use borrow.Fn.PlainCycle.{Measures, is, falls, and}
-use lib.ListN.{length}
 use Rattle.common.specs.Bits.{bit}
 use Rattle.sheet.specs.Record.{byte}
 use Rattle.plan.specs.Groups.{groupOf}

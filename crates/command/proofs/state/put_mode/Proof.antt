@@ -1,6 +1,5 @@
 use Prim.Native.Nat.{_*_}
 use mathlib.Core.Path.{ap}
-use native.Mathlib.Omega.{arith}
 use lib.ListN.{set}
 use Rattle.command.specs.State.{withMode}
 use borrow.Author.Needs.{needs}

@@ -1,0 +1,80 @@
+-- A tag on a machine that is of no unmet group, and of none that is upstream of one, hinders nothing.
+-- Assumes nothing.
+use Prim.Native.Nat.{ℕ, _<_}
+use mathlib.Core.Path.{_≡_, sym, ap, ap₂, fun-ext, _∙_}
+use mathlib.Core.List.{List, _++_}
+use mathlib.Core.Bool.{false, not, _&&_, _||_}
+use native.Mathlib.Omega.{arith}
+use lib.Dec.{eqb}
+use lib.Seq.{ext-getD}
+use Rattle.common.specs.Reply.{unless}
+use Rattle.common.proofs.Bools.{by-cases}
+use Rattle.common.proofs.Lists.{all-cong}
+use Rattle.common.proofs.Sums.{flatMap-cong}
+use Rattle.sheet.specs.Model.{Model, machineCount}
+use Rattle.plan.specs.Groups.{groupCount, members}
+use Rattle.plan.specs.Reading.{groupsIn, wellShaped}
+use Rattle.plan.proofs.Modes.{member-of}
+use Rattle.command.specs.State.{modes, tagOf, goalFaults}
+use Rattle.command.specs.Goal.{Masks, goalMasks, met}
+use Rattle.command.specs.Ancestors.{downTo, upstreamIn}
+use Rattle.command.specs.Attainable.{liveGroup, deadEnd, groupFaults, attainFaults}
+use Rattle.command.specs.Uncovered.{Concerns}
+use Rattle.command.specs.Tagless.{plainFulfil}
+use Rattle.command.specs.Tags.{Concerned, TagsAside}
+use Rattle.command.proofs.States.{length-modes}
+use Rattle.command.proofs.Asking.{misshapen-reply}
+use Rattle.command.proofs.Causes.{concern}
+use Rattle.command.proofs.Highest.{downTo-below}
+use Rattle.command.proofs.Tagless.{plain-fulfil}
+use Rattle.command.proofs.TurnedDown.{state-judged}
+
+module _ (m : Model) (plan : List ℕ) (masks : Masks) (state other : List ℕ) (same : modes state ≡ modes other)
+    (agree : (i : ℕ) → Concerned m plan masks state i → tagOf state i ≡ tagOf other i) where
+  -- an unmet group, and one that concerns it
+  module _ (k : ℕ) (below : k < groupCount (groupsIn m plan)) (unmet : met (groupsIn m plan) masks state k ≡ false) where
+    live-same : (a : ℕ) → Concerns m plan state masks k a → liveGroup m plan state a ≡ liveGroup m plan other a
+    unfolding liveGroup
+    live-same a c =
+        all-cong _ _ (members (groupsIn m plan) a) (λ i l.
+        let tag = agree i (record { group = k; below = below; unmet = unmet; concerns = rw (member-of (groupsIn m plan) a l) c }) in
+        rw (same, tag))
+
+    -- of 16
+    hindered-same : (a : ℕ) → ((eqb a k || upstreamIn m plan k a) && not (liveGroup m plan state a))
+        ≡ ((eqb a k || upstreamIn m plan k a) && not (liveGroup m plan other a))
+    hindered-same a =
+        by-cases (eqb a k || upstreamIn m plan k a)
+        (λ t. rw t (ap not (live-same a (concern m plan state masks k a t))))
+        (λ f. rw f)
+
+    faults-same : groupFaults m plan state masks k ≡ groupFaults m plan other masks k
+    unfolding groupFaults deadEnd
+    faults-same = rw (fun-ext hindered-same, same)
+
+  met-same : (k : ℕ) → met (groupsIn m plan) masks state k ≡ met (groupsIn m plan) masks other k
+  unfolding met
+  met-same k = rw same
+
+  attain-same : attainFaults m plan state masks ≡ attainFaults m plan other masks
+  unfolding attainFaults
+  attain-same =
+      flatMap-cong _ _ (downTo (groupCount (groupsIn m plan))) (λ k l. by-cases (met (groupsIn m plan) masks state k)
+      (λ t. rw (t, sym (met-same k) ∙ t))
+      (λ f. rw (f, sym (met-same k) ∙ f) (faults-same k (downTo-below _ l) f)))
+
+pub tags-aside : TagsAside
+tags-aside sheet plan state other goal d parses fits also modes-agree agree =
+    let m = d .model in
+    let n = machineCount m in
+    let long = length-modes state n (fits .0) in
+    let same : modes state ≡ modes other = ext-getD 0 _ _ (long ∙ sym (length-modes other n (also .0))) (λ i l. modes-agree i (omega arith)) in
+    by-cases (wellShaped m plan)
+    (λ shaped.
+    state-judged sheet plan state goal d parses shaped fits
+    ∙ ap₂ (λ later r. unless (goalFaults m goal ++ later) r)
+    (attain-same m plan (goalMasks m goal) state other same agree)
+    (plain-fulfil m plan state _ _ ∙ ap (λ ms. plainFulfil m plan ms (goalMasks m goal) (groupCount (groupsIn m plan))) same
+    ∙ sym (plain-fulfil m plan other _ _))
+    ∙ sym (state-judged sheet plan other goal d parses shaped also))
+    (λ f. misshapen-reply sheet plan state goal d parses f ∙ sym (misshapen-reply sheet plan other goal d parses f))
