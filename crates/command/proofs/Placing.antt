@@ -16,8 +16,8 @@ use Rattle.plan.specs.Groups.{groupOf, groupCount}
 use Rattle.plan.specs.Reading.{groupsIn}
 use Rattle.plan.specs.ModeSets.{ModesHeld}
 use Rattle.plan.proofs.NumbersUsed.{gapless-count}
-use Rattle.command.specs.State.{machinesIn, modeOf}
-use Rattle.command.specs.Question.{Placed, Kept, numbersIn, weightsIn}
+use Rattle.command.specs.State.{modeOf}
+use Rattle.command.specs.Question.{machinesIn, Placed, Kept, numbersIn, weightsIn}
 use Rattle.command.proofs.Shape.{Sound, sound-state, shape-gapless, groups-length, group-below}
 
 module _ {m : Model} {plan state numbers : List ℕ} (p : Placed m plan state numbers) where

@@ -22,11 +22,10 @@ use Rattle.plan.specs.Outline.{verdictSays}
 use Rattle.plan.specs.Partition.{MemberSets}
 use Rattle.plan.specs.Reading.{groupsIn, wellShaped}
 use Rattle.command.specs.Goal.{Masks}
-use Rattle.command.specs.State.{machinesIn}
 use Rattle.command.specs.Attainable.{attainFaults}
 use Rattle.command.specs.Next.{Next, followBy, fulfil}
 use Rattle.command.specs.Question.{Allows, Placed, Kept, GroupsOnly, FailedSet, NamedBy, UpstreamOfSome}
-use Rattle.command.specs.Question.{AllowedSets, KeptGoal, numbersIn}
+use Rattle.command.specs.Question.{machinesIn, AllowedSets, KeptGoal, numbersIn}
 use Rattle.command.proofs.CoverLoop.{above-only}
 use Rattle.command.proofs.GroupVerdict.{Top}
 use Rattle.command.proofs.LeftUnmet.{left-only, highest-left}

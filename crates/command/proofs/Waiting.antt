@@ -24,12 +24,12 @@ use Rattle.plan.specs.Modes.{size}
 use Rattle.plan.specs.ModeSets.{ModesHeld, MeetingSet}
 use Rattle.plan.specs.Reading.{groupsIn}
 use Rattle.plan.proofs.Named.{moves-in, moves-mem, guard-at-most}
-use Rattle.command.specs.State.{machinesIn, modeOf}
+use Rattle.command.specs.State.{modeOf}
 use Rattle.command.specs.Goal.{Masks, guardMasks, met}
 use Rattle.command.specs.Next.{Next, command, holdsInside, holdsOutside, prepareBy, followBy}
 use Rattle.command.specs.Method.{HighestUnmet}
 use Rattle.command.specs.Question.{Placed, Kept, Listed, AllowedSet, HeldUp, OnlyOutside}
-use Rattle.command.specs.Question.{numbersIn, weightsIn, sizeIn}
+use Rattle.command.specs.Question.{machinesIn, numbersIn, weightsIn, sizeIn}
 use Rattle.command.proofs.Following
 use Rattle.command.proofs.Fitness.{ready-test}
 use Rattle.command.proofs.Goals.{needs-allowed, needs-hold, met-holds}

@@ -1,5 +1,5 @@
 -- How the code keeps one question: what its goal allows, the groups that the plan numbers, and the mode that each is in.
-use Prim.Native.Nat.{ℕ, _+_, _≤_, _<_}
+use Prim.Native.Nat.{ℕ, _+_, _/_, _≤_, _<_}
 use mathlib.Core.Path.{_≡_}
 use mathlib.Core.Logic.{_↔_}
 use mathlib.Core.List.{List, List·Memᴰ}
@@ -47,6 +47,10 @@ pub record Placed (m : Model) (plan state numbers : List ℕ) : Type 0 where
   pub shaped : wellShaped m plan ≡ true
   pub passes : clear (stateFaults m state) ≡ true
   pub numbered : numbers ≡ groupsIn m plan
+
+-- how many machines a state is for
+abbrev pub machinesIn : List ℕ → ℕ
+machinesIn state = length state / 2
 
 -- The facts of a question, in one array: of each of n machines its group and its weight, of each group its size and the
 -- mode that it is in.

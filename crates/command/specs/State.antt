@@ -1,7 +1,7 @@
 -- "Wishes, and which are covered": the lent state and goal, with 13 and 14 of "Why a call is turned down".
--- A state has two bytes for each machine: its mode, then its tag, 1 if nobody may move it, else 0.
 -- In both the length is judged before the bytes.
-use Prim.Native.Nat.{ℕ, _*_, _/_}
+-- A state has two bytes for each machine: its mode, then its tag, 1 if nobody may move it, else 0.
+use Prim.Native.Nat.{ℕ, _*_}
 use mathlib.Core.List.{List, [], _∷_}
 use mathlib.Core.Bool.{Bool, not, _||_}
 use lib.ListN.{length, getD, set, drop}
@@ -17,10 +17,6 @@ unfoldable pub everySecond : List ℕ → List ℕ
 everySecond [] = []
 everySecond (x ∷ []) = x ∷ []
 everySecond (x ∷ y ∷ rest) = x ∷ everySecond rest
-
--- how many machines a state is for
-abbrev pub machinesIn : List ℕ → ℕ
-machinesIn state = length state / 2
 
 -- the modes and the tags of a state, one for each machine: the only readers of a state's bytes
 unfoldable pub modes : List ℕ → List ℕ

@@ -5,8 +5,7 @@ use sheet::record::wide;
 ghost use mathlib.Core.Path.{_≡_};
 ghost use Prim.Native.Nat.{ℕ, _≤_, _<_};
 ghost use lib.ListN.{length, getD};
-ghost use Rattle.command.specs.State.{machinesIn};
-ghost use Rattle.command.specs.Question.{numbersIn, weightsIn, sizeIn, presentIn};
+ghost use Rattle.command.specs.Question.{machinesIn, numbersIn, weightsIn, sizeIn, presentIn};
 
 // Each machine's group and weight, each group's size and present mode: 32 bytes each.
 pub fn gathered(numbers: &[u8], weights: &[u8], sizes: &[u8], present: &[u8]) -> [u8; 128]

@@ -16,7 +16,8 @@ ghost use Rattle.plan.specs.Groups.{groupCount};
 ghost use Rattle.plan.specs.Modes.{modeNumber};
 ghost use Rattle.plan.specs.ModeSets.{Weighed};
 ghost use Rattle.plan.specs.Outline.{verdictSays};
-ghost use Rattle.command.specs.State.{machinesIn, modes, modeOf, tagOf, withMode, badPair, stateFaults};
+ghost use Rattle.command.specs.Question.{machinesIn};
+ghost use Rattle.command.specs.State.{modes, modeOf, tagOf, withMode, badPair, stateFaults};
 
 // The place of 13 and 14 where a length is wrong.
 pub const LENGTH: usize = 255;
