@@ -79,10 +79,10 @@ panel_folders() {
         cp examples/stove/*.bin "$work/$folder"
     done
     rm "$work/no_wish/wish.bin"
-    printf '\x00\x02\x00' >"$work/bad_state/state.bin"
+    printf '\x00\x00\x02\x00\x00\x00' >"$work/bad_state/state.bin"
     rm "$work/no_state/state.bin"
     printf '\x01\x01\x01\x01' >"$work/long_wish/wish.bin"
-    printf '\x01\x01\x01' >"$work/no_way/state.bin"
+    printf '\x01\x00\x01\x00\x01\x00' >"$work/no_way/state.bin"
     printf '\x03\x03\x04' >"$work/no_way/wish.bin"
     printf '\x03\x03\x01' >"$work/contradiction/wish2.bin"
     printf '\x01%.0s' {1..300} >"$work/long_second_wish/wish2.bin"
@@ -149,11 +149,29 @@ without_moves() {
     sed -E '/^(done|refused) /b; s/^([0-9]+ [0-9]+) [0-9]+$/\1/; t; s/^/no move: /'
 }
 
+# Copies every recorded case. Their states have no tags and are read as tagless,
+# with a zero behind each byte, which leaves a wrong length or mode wrong.
+tagless_cases() {
+    python3 - "$1" "$2" <<'END'
+import sys
+from pathlib import Path
+source, copies = map(Path, sys.argv[1:])
+for expect in source.glob("*/expect.txt"):
+    copy = copies / expect.parent.name
+    copy.mkdir(parents=True)
+    for file in expect.parent.iterdir():
+        data = file.read_bytes()
+        if file.name == "state.bin":
+            data = bytes(byte for mode in data for byte in (mode, 0))
+        (copy / file.name).write_bytes(data)
+END
+}
+
 # Tries walk on every recorded case; these have no moves.
 recorded_walks() {
     local folder wrong=0 count=0
-    for folder in "${DUTY_VECTORS:-../shared/vectors}"/*/; do
-        [ -f "$folder/expect.txt" ] || continue
+    tagless_cases "${DUTY_VECTORS:-../shared/vectors}" "$work/cases" || return 1
+    for folder in "$work"/cases/*/; do
         count=$((count + 1))
         walk_says "$folder" without_moves || { echo "$folder"; wrong=1; }
     done

@@ -3,6 +3,7 @@
 
 use crate::command::Command;
 use crate::library::Library;
+use crate::state::lifted;
 use crate::version::{Rust, Version};
 use crate::Reply;
 
@@ -69,6 +70,14 @@ impl Lent {
             drawn: none.clone(),
             text: none.clone(),
             shown: none,
+        }
+    }
+
+    /// The same with all tags of the state lifted.
+    pub fn lifted(&self) -> Self {
+        Lent {
+            state: Slot::new(&lifted(self.state.get())),
+            ..self.clone()
         }
     }
 }

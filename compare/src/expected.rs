@@ -1,17 +1,18 @@
-//! What is expected of commands, goals and edges, straight from the lent bytes.
-//! The tests hold the versions against it.
+//! What is expected of commands, goals, tags and edges, straight from the lent
+//! bytes. The tests hold the versions against it.
 
 use crate::both::{apply, next_command};
 use crate::command::{Command, Effect, Next};
 use crate::records::Records;
 use crate::walk::bound_of;
+use crate::Reply;
 use std::collections::BTreeSet;
 
 /// Whether a state meets a goal.
 pub fn meets(state: &[u8], goal: &[u8]) -> bool {
     goal.iter()
-        .zip(state)
-        .all(|(mask, mode)| mask >> mode & 1 == 1)
+        .zip(state.chunks(2))
+        .all(|(mask, cell)| mask >> cell[0] & 1 == 1)
 }
 
 /// The bodies of a sheet's moves, in their order.
@@ -39,12 +40,45 @@ pub fn named_outside(sheet: &[u8], groups: &[u8]) -> Vec<u8> {
     outside.flatten().collect()
 }
 
+/// The groups that 16 looks at: those that do not meet the goal, and all upstream
+/// of them. Each machine's group is given.
+pub fn judged(sheet: &[u8], groups: &[u8], state: &[u8], goal: &[u8]) -> BTreeSet<u8> {
+    let wanted = goal.iter().zip(state.chunks(2)).zip(groups);
+    let unmet = wanted.filter(|((mask, cell), _)| *mask >> cell[0] & 1 == 0);
+    let mut judged: BTreeSet<u8> = unmet.map(|(_, &group)| group).collect();
+    let edges = named_outside(sheet, groups);
+    loop {
+        let upstream = edges.chunks(2).filter(|edge| judged.contains(&edge[1]));
+        let wider: BTreeSet<u8> = upstream.map(|edge| edge[0]).chain(judged.clone()).collect();
+        if wider == judged {
+            return judged;
+        }
+        judged = wider;
+    }
+}
+
+/// How tags change a reply, given the one with all tags lifted: 13 for a tag byte,
+/// 16 where a command would be sent, 16 in place of another refusal, nothing
+/// done where a machine would move. They never change it otherwise.
+pub fn tags_change(reply: Reply<u32>, lifted: Reply<u32>) -> Option<usize> {
+    let number = reply.err().map(|refusal| refusal.number);
+    match (number, lifted) {
+        _ if reply == lifted => None,
+        (Some(13), _) => Some(0),
+        (Some(16), Ok(_)) => Some(1),
+        (Some(16), Err(_)) => Some(2),
+        (None, Ok(_)) if reply == Ok(Effect::Nothing.value()) => Some(3),
+        _ => panic!("tags make {reply:?} of {lifted:?}"),
+    }
+}
+
 /// Whether a move is of a command's machine and byte, from the mode that the
-/// machine is in, and the state meets all of its guards.
+/// machine is in, with no tag on it, and the state meets all of its guards.
 fn acts(body: &[u8], state: &[u8], command: Command) -> bool {
-    let mode = |machine: u8| state[machine as usize];
+    let mode = |machine: u8| state[2 * machine as usize];
+    let tag = |machine: u8| state[2 * machine as usize + 1];
     [body[0], body[3]] == [command.machine, command.command]
-        && body[1] == mode(body[0])
+        && [body[1], 0] == [mode(body[0]), tag(body[0])]
         && body[4..]
             .chunks(2)
             .all(|guard| guard[1] >> mode(guard[0]) & 1 == 1)
@@ -61,7 +95,7 @@ pub fn effect(sheet: &[u8], state: &[u8], command: Command) -> (Effect, Vec<u8>)
     match acting[..] {
         [] => (Effect::Nothing, after),
         [(number, body)] => {
-            after[body[0] as usize] = body[2];
+            after[2 * body[0] as usize] = body[2];
             (Effect::Move(number), after)
         }
         _ => panic!("{} moves act at once", acting.len()),

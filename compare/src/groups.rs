@@ -5,6 +5,7 @@
 
 use crate::bits;
 use crate::sheet::{Move, Sheet, MAX_MACHINES};
+use crate::state::State;
 
 /// Most modes of a group.
 pub const MAX_GROUP_MODES: u64 = 64;
@@ -130,10 +131,10 @@ impl Groups {
     }
 
     /// The group mode that the state puts a group in.
-    pub fn present(&self, group: usize, state: &[u8]) -> usize {
+    pub fn present(&self, group: usize, state: State) -> usize {
         let mut mode = 0;
         for machine in self.members(group) {
-            mode += self.weights[machine] as usize * state[machine] as usize;
+            mode += self.weights[machine] as usize * state.mode(machine) as usize;
         }
         mode
     }

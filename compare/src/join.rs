@@ -1,8 +1,8 @@
 //! Joining: the goals of several cooks become one.
 
-use crate::command::{check_goal, LENGTH};
+use crate::command::check_goal;
 use crate::sheet::{Sheet, MAX_MACHINES};
-use crate::{front, refuse, Reply};
+use crate::{front, refuse, Reply, LENGTH};
 
 /// So many goals are joined at most.
 pub const MAX_GOALS: usize = 8;

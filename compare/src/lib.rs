@@ -18,6 +18,7 @@ pub mod records;
 pub mod samples;
 pub mod shape;
 pub mod sheet;
+pub mod state;
 pub mod version;
 pub mod walk;
 
@@ -29,6 +30,9 @@ pub struct Refusal {
 }
 
 pub type Reply<T> = Result<T, Refusal>;
+
+/// The place of 13 and 14 where the length is wrong.
+pub const LENGTH: usize = 255;
 
 /// A refused reply.
 pub fn refuse<T>(number: u32, place: usize) -> Reply<T> {

@@ -10,6 +10,7 @@ use crate::plan::{BOUND, GROUP_NUMBERS, NO_ROUTE, SCRATCH, TABLE};
 use crate::samples::Builder;
 use crate::shape::Plan;
 use crate::sheet::{Sheet, MAX_MACHINES};
+use crate::state::{set_tag, untagged};
 use crate::version::Rust;
 use crate::walk::own_plan;
 
@@ -248,8 +249,20 @@ pub fn state(random: &mut Random, sheet: &Sheet) -> Vec<u8> {
         };
         random.one_of(among)
     };
-    let mut state: Vec<u8> = (0..sheet.machines()).map(mode).collect();
-    spoil(random, &mut state);
+    let modes: Vec<u8> = (0..sheet.machines()).map(mode).collect();
+    let mut state = untagged(&modes);
+    // One machine in so many has a tag.
+    let tags = [3, 8, 10_000][random.below(3)];
+    for machine in 0..sheet.machines() {
+        set_tag(&mut state, machine, random.once_in(tags) as u8);
+    }
+    let machine = random.below(sheet.machines());
+    match random.below(80) {
+        // All tags left out, or one byte that is no tag.
+        0 => state = modes,
+        1 => set_tag(&mut state, machine, 2 + random.byte() % 254),
+        _ => spoil(random, &mut state),
+    }
     state
 }
 

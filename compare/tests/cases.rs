@@ -7,6 +7,7 @@ use duty_compare::join::in_one_slice;
 use duty_compare::samples::{blocks, dials, filter, stove, Builder};
 use duty_compare::shape::Plan;
 use duty_compare::sheet::Sheet;
+use duty_compare::state::untagged;
 use duty_compare::walk::bound_of;
 use duty_compare::{refuse, Reply};
 
@@ -14,8 +15,9 @@ fn bound(sheet: &[u8]) -> Reply<u32> {
     own_plan(sheet).map(|plan| bound_of(&plan))
 }
 
-fn next(sheet: &[u8], state: &[u8], goal: &[u8]) -> Reply<Next> {
-    next_command(sheet, &own_plan(sheet)?, state, goal)
+/// The next command from these modes, with no tags.
+fn next(sheet: &[u8], modes: &[u8], goal: &[u8]) -> Reply<Next> {
+    next_command(sheet, &own_plan(sheet)?, &untagged(modes), goal)
 }
 
 /// An entry of the sheet's own plan.
@@ -46,7 +48,7 @@ const CASE_3: &str = "0 1 0\n1 1 2\n2 1 4\n0 2 1\ndone 4 bound 7\n";
 
 #[test]
 fn case_3_walk_turns_the_board_off_last() {
-    assert_eq!(walk(&stove(), &[0, 0, 0], &[1, 2, 2]), CASE_3);
+    assert_eq!(walk(&stove(), &[0; 6], &[1, 2, 2]), CASE_3);
 }
 
 #[test]
@@ -65,7 +67,7 @@ fn case_5_burner_cannot_be_tripped_on_purpose() {
 
 #[test]
 fn case_6_fan_stays_on_while_the_burner_is_lit() {
-    let mut state = [1, 1, 1];
+    let mut state = untagged(&[1, 1, 1]);
     let reply = apply(
         &stove(),
         &mut state,
@@ -74,13 +76,14 @@ fn case_6_fan_stays_on_while_the_burner_is_lit() {
             command: 2,
         },
     );
-    assert_eq!((reply, state), (Ok(Effect::Nothing), [1, 1, 1]));
+    assert_eq!(reply, Ok(Effect::Nothing));
+    assert_eq!(state, untagged(&[1, 1, 1]));
 }
 
 #[test]
 fn case_7_one_machine_of_one_mode_is_done() {
     let sheet = Builder::new().machines(1, 1).end();
-    assert_eq!(walk(&sheet, &[0], &[1]), "done 0 bound 0\n");
+    assert_eq!(walk(&sheet, &[0, 0], &[1]), "done 0 bound 0\n");
 }
 
 #[test]
@@ -106,7 +109,7 @@ fn case_10_four_groups_of_64_fit_and_one_mode_more_does_not() {
 
 #[test]
 fn a_command_of_an_absent_machine_changes_nothing() {
-    let mut state = [1, 1, 1];
+    let mut state = untagged(&[1, 1, 1]);
     for command in [
         Command {
             machine: 3,
@@ -119,12 +122,12 @@ fn a_command_of_an_absent_machine_changes_nothing() {
     ] {
         assert_eq!(apply(&stove(), &mut state, command), Ok(Effect::Nothing));
     }
-    assert_eq!(state, [1, 1, 1]);
+    assert_eq!(state, untagged(&[1, 1, 1]));
 }
 
 #[test]
 fn every_move_of_the_stove_tells_its_number() {
-    // Each machine's command, the state that it acts in, and the one after it.
+    // Each machine's command, the modes that it acts in, and those after it.
     let moves = [
         ((0, 1), [0, 0, 0], [1, 0, 0]),
         ((0, 2), [1, 1, 1], [0, 1, 1]),
@@ -134,9 +137,11 @@ fn every_move_of_the_stove_tells_its_number() {
         ((2, 2), [1, 0, 1], [1, 0, 0]),
         ((2, 3), [1, 1, 2], [1, 1, 0]),
     ];
-    for (number, ((machine, command), mut state, after)) in (0..).zip(moves) {
+    for (number, ((machine, command), modes, after)) in (0..).zip(moves) {
+        let mut state = untagged(&modes);
         let reply = apply(&stove(), &mut state, Command { machine, command });
-        assert_eq!((reply, state), (Ok(Effect::Move(number)), after));
+        assert_eq!(reply, Ok(Effect::Move(number)));
+        assert_eq!(state, untagged(&after));
     }
 }
 
@@ -154,7 +159,7 @@ fn two_cooks_may_agree_on_the_stove() {
     // The burner is to be lit, and the fan is to be on with the board off.
     let both = joined(&[&[3, 3, 2], &[1, 2]]).expect("a goal");
     assert_eq!(both, [1, 2, 2]);
-    assert_eq!(walk(&stove(), &[0, 0, 0], &both), CASE_3);
+    assert_eq!(walk(&stove(), &[0; 6], &both), CASE_3);
 }
 
 #[test]

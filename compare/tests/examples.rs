@@ -9,6 +9,7 @@ use duty_compare::refuse;
 use duty_compare::samples::stove;
 use duty_compare::shape::Plan;
 use duty_compare::sheet::Sheet;
+use duty_compare::state::untagged;
 
 const KITCHEN: &[u8] = include_bytes!("../../examples/kitchen/sheet.bin");
 
@@ -18,7 +19,7 @@ fn the_stove_is_the_stove() {
     let state = include_bytes!("../../examples/stove/state.bin");
     let goal = include_bytes!("../../examples/stove/wish.bin");
     assert_eq!(sheet[..], stove());
-    assert_eq!((state, goal), (&[0, 0, 0], &[1, 2, 2]));
+    assert_eq!((state, goal), (&[0; 6], &[1, 2, 2]));
 }
 
 #[test]
@@ -29,7 +30,7 @@ fn two_cooks_wish_together_what_the_stove_is_wished_alone() {
     let second = include_bytes!("../../examples/two_cooks/wish2.bin");
     let wishes = in_one_slice(&[first.as_slice(), second]);
     let mut out = [0; 3];
-    assert_eq!((&sheet[..], state), (&stove()[..], &[0, 0, 0]));
+    assert_eq!((&sheet[..], state), (&stove()[..], &[0; 6]));
     assert_eq!(join(sheet, &wishes, &mut out), Ok(3));
     assert_eq!(&out, include_bytes!("../../examples/stove/wish.bin"));
 }
@@ -48,7 +49,7 @@ fn the_kitchen_has_twenty_machines_of_three_live_modes() {
 }
 
 /// With every mode live and every entry a route, 16, 17 and 18 apply to no
-/// state and no goal.
+/// state without tags and no goal.
 #[test]
 fn every_state_of_the_kitchen_can_meet_every_goal() {
     let plan = own_plan(KITCHEN).expect("a plan");
@@ -105,7 +106,8 @@ fn random_walks_of_the_kitchen_arrive_within_the_bound() {
     let plan = own_plan(KITCHEN).expect("a plan");
     let random = &mut Random::new(20);
     for _ in 0..3000 {
-        let mut state: Vec<u8> = (0..20).map(|_| random.below(3) as u8).collect();
+        let modes: Vec<u8> = (0..20).map(|_| random.below(3) as u8).collect();
+        let mut state = untagged(&modes);
         let goal: Vec<u8> = (0..20).map(|_| 1 + random.below(7) as u8).collect();
         let count = obeyed(KITCHEN, &plan, &mut state, &goal);
         assert!(count.is_some(), "not attainable: {state:?} {goal:?}");

@@ -1,11 +1,12 @@
 //! Sheets at the edges, in both versions: the fullest, the longest plan, and
 //! numbers that pass 32 and 64 bits.
 
-use duty_compare::both::{apply, check_sheet, own_plan, plan_length, walk};
-use duty_compare::command::{Command, Effect};
+use duty_compare::both::{apply, check_sheet, next_command, own_plan, plan_length, walk};
+use duty_compare::command::{Command, Effect, Next};
 use duty_compare::samples::{
     blocks, circle, dials, fullest, longest_plan, product, snake, Builder,
 };
+use duty_compare::state::untagged;
 use duty_compare::walk::bound_of;
 use duty_compare::{refuse, Reply};
 
@@ -24,13 +25,40 @@ fn the_fullest_sheet_has_6196_bytes() {
 
 #[test]
 fn the_last_move_of_the_fullest_sheet_is_249() {
-    let mut state = [7; 32];
+    let mut state = untagged(&[7; 32]);
     let command = Command {
         machine: 25,
         command: 50,
     };
     let reply = apply(&fullest(), &mut state, command);
-    assert_eq!((reply, state[25]), (Ok(Effect::Move(249)), 0));
+    assert_eq!((reply, state[2 * 25]), (Ok(Effect::Move(249)), 0));
+}
+
+#[test]
+fn the_last_of_32_machines_may_be_tagged() {
+    let sheet = Builder::new()
+        .machines(32, 2)
+        .step([31, 0, 1, 1], &[])
+        .end();
+    let plan = own_plan(&sheet).expect("a plan");
+    let mut goal = [3; 32];
+    goal[31] = 2;
+    let tag = |byte| {
+        let mut state = [0; 64];
+        state[63] = byte;
+        state
+    };
+    let sent = Command {
+        machine: 31,
+        command: 1,
+    };
+    let next = |byte| next_command(&sheet, &plan, &tag(byte), &goal);
+    assert_eq!(next(0), Ok(Next::Send(sent)));
+    assert_eq!(next(1), refuse(16, 31));
+    assert_eq!(next(2), refuse(13, 31));
+    let mut state = tag(1);
+    assert_eq!(apply(&sheet, &mut state, sent), Ok(Effect::Nothing));
+    assert_eq!(state, tag(1));
 }
 
 #[test]
@@ -79,7 +107,7 @@ fn the_longest_plan_has_32928_bytes() {
 
 #[test]
 fn a_route_may_take_63_moves() {
-    let printed = walk(&snake(), &[0, 0], &[1, 0x80]);
+    let printed = walk(&snake(), &[0; 4], &[1, 0x80]);
     assert!(printed.ends_with("done 63 bound 63\n"), "{printed}");
 }
 

@@ -8,6 +8,7 @@ use duty_compare::random::{lent, Random};
 use duty_compare::samples::{dials, stove, Builder};
 use duty_compare::shape::Plan;
 use duty_compare::sheet::Sheet;
+use duty_compare::state::{untagged, State};
 use duty_compare::{refuse, Reply};
 
 /// The stove's tables: the board's entries, then fan and burner's.
@@ -20,11 +21,11 @@ fn entry_at(table: usize, size: usize, from: usize, wanted: usize) -> usize {
     table + 2 * (from * size + wanted)
 }
 
-/// The stove's plan after an edit, asked for its next command.
-fn edited(edit: impl FnOnce(&mut Vec<u8>), state: [u8; 3], goal: &[u8]) -> Reply<Next> {
+/// The stove's plan after an edit, asked for its next command from these modes.
+fn edited(edit: impl FnOnce(&mut Vec<u8>), modes: [u8; 3], goal: &[u8]) -> Reply<Next> {
     let mut plan = own_plan(&stove()).expect("a plan");
     edit(&mut plan);
-    next_command(&stove(), &plan, &state, goal)
+    next_command(&stove(), &plan, &untagged(&modes), goal)
 }
 
 fn send(machine: u8, command: u8) -> Reply<Next> {
@@ -63,9 +64,9 @@ fn a_plan_of_another_shape_is_refused() {
 }
 
 /// Replaces the entry from all off to fan on, burner lit.
-fn with_entry(entry: [u8; 2], state: [u8; 3]) -> Reply<Next> {
+fn with_entry(entry: [u8; 2], modes: [u8; 3]) -> Reply<Next> {
     let at = entry_at(FAN_BURNER, 6, 0, 3);
-    edited(|plan| plan[at..at + 2].copy_from_slice(&entry), state, &LIT)
+    edited(|plan| plan[at..at + 2].copy_from_slice(&entry), modes, &LIT)
 }
 
 #[test]
@@ -130,7 +131,7 @@ fn machines_may_be_joined_or_numbered_otherwise() {
             .record(17, &[0, 254, 1, number, 255, 255, 0, 254])
             .unfinished()
     };
-    let ask = |plan: &[u8]| next_command(&sheet, plan, &[0, 0], &[2, 2]);
+    let ask = |plan: &[u8]| next_command(&sheet, plan, &[0; 4], &[2, 2]);
     let own = finish(&[single(0), single(1)].concat(), &[0, 1]);
     assert_eq!(
         Ok(&own[..own.len() - 8]),
@@ -160,8 +161,8 @@ fn a_plan_may_serve_a_sheet_that_planning_refuses() {
     let plan = plan.record(18, &[0; 4]).end();
     assert_eq!(own_plan(&sheet), refuse(11, 0));
     // The last dial is to turn; the highest of those before it that is in the way goes first.
-    let turned =
-        |state: [u8; 6]| next_command(&sheet, &plan, &state, &[255, 255, 255, 255, 255, 2]);
+    let goal = [255, 255, 255, 255, 255, 2];
+    let turned = |modes: [u8; 6]| next_command(&sheet, &plan, &untagged(&modes), &goal);
     assert_eq!(turned([3, 0, 0, 2, 0, 0]), send(5, 1));
     assert_eq!(turned([3, 0, 0, 2, 1, 0]), send(3, 1));
     assert_eq!(turned([3, 1, 1, 2, 1, 0]), send(0, 1));
@@ -172,6 +173,7 @@ fn named(sheet: &[u8], plan: &[u8], state: &[u8], machine: u8) -> Vec<u8> {
     let sheet = Sheet::read(sheet).expect("a sheet that passes");
     let plan = Plan::read(&sheet, plan).expect("a plan in shape");
     let group = plan.groups.of[machine as usize] as usize;
+    let state = State::read(&sheet, state).expect("a state that fits");
     let entries = plan.entries(group, plan.groups.present(group, state));
     let routes = entries.iter().filter(|entry| entry[0] != NO_ROUTE[0]);
     routes.map(|entry| entry[1]).collect()

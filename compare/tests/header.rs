@@ -3,7 +3,9 @@
 //! order; the header's largest sizes must be the largest, and its sign for no
 //! move must be that of applying.
 
-use duty_compare::both::{check_sheet, graph, graph_read, join, next_command, plan_length};
+use duty_compare::both::{
+    check_sheet, graph, graph_read, join, next_command, own_plan, plan_length,
+};
 use duty_compare::command::{Effect, Next};
 use duty_compare::join::in_one_slice;
 use duty_compare::pictures::Drawing;
@@ -256,9 +258,21 @@ fn the_longest_plan_in_shape_is_accepted() {
     let tables = (0..16).fold(start, |plan, _| plan.record(17, &[0; 2 * 64 * 64]));
     let plan = tables.record(18, &[0; 4]).end();
     assert_eq!(plan.len(), constant("DUTY_FOREIGN_PLAN_MAX"));
-    let ask = |plan: &[u8]| next_command(&sheet, plan, &[0; 32], &[]);
+    let ask = |plan: &[u8]| next_command(&sheet, plan, &[0; 64], &[]);
     assert_eq!(ask(&plan), Ok(Next::Done));
     assert_eq!(ask(&[&plan[..], &[0]].concat()), refuse(15, 0));
+}
+
+/// 32 machines, of which no two need each other.
+#[test]
+fn the_longest_state_is_accepted() {
+    let sheet = Builder::new().machines(32, 1).end();
+    let plan = own_plan(&sheet).expect("a plan");
+    let longest = vec![0; constant("DUTY_STATE_MAX")];
+    let ask = |state: &[u8]| next_command(&sheet, &plan, state, &[]);
+    assert_eq!(ask(&longest), Ok(Next::Done));
+    let longer = [&longest[..], &[0, 0]].concat();
+    assert_eq!(ask(&longer), refuse(13, 255));
 }
 
 /// 32 groups of one machine, each named by all behind it.

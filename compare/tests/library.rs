@@ -2,7 +2,8 @@
 //! for more random rounds than usual, DUTY_SEED for others.
 
 use duty_compare::calls::{Call, Lent, Slot, CALLS};
-use duty_compare::command::Effect;
+use duty_compare::command::{Command, Effect};
+use duty_compare::expected::tags_change;
 use duty_compare::faults::faulty_sheets;
 use duty_compare::graph::MAX_TEXT;
 use duty_compare::pictures::own_text;
@@ -13,6 +14,7 @@ use duty_compare::samples::{
 use duty_compare::shape::Plan;
 use duty_compare::sheet::Sheet;
 use duty_compare::version::Rust;
+use duty_compare::walk::own_plan;
 use duty_compare::{refuse, Reply};
 use std::collections::BTreeMap;
 use std::fmt::{Display, Formatter};
@@ -127,6 +129,8 @@ struct Tally {
     unchanged: u64,
     /// Applied commands by the number of their move.
     moves: BTreeMap<u8, u64>,
+    /// Replies that tags change, by what they change.
+    tags: [u64; 4],
     joined: [u64; 6],
     /// Texts drawn and not, texts read and not.
     drawn: [u64; 2],
@@ -147,6 +151,13 @@ impl Tally {
             Ok(Effect::Nothing) => self.unchanged += 1,
             Ok(Effect::Move(number)) => *self.moves.entry(number).or_default() += 1,
             Err(_) => {}
+        }
+        for (name, reply) in [("next", next), ("apply", apply)] {
+            let call = Call::named(name).expect("a call");
+            let lifted = (call.rust)(&mut input.lifted());
+            if let Some(change) = tags_change(reply, lifted) {
+                self.tags[change] += 1;
+            }
         }
         if let Some(reply) = joined(join) {
             self.joined[reply] += 1;
@@ -169,6 +180,7 @@ impl Tally {
             &self.refused[1..],
             &others,
             &applied,
+            &self.tags,
             &self.joined,
             &pictures,
         ];
@@ -181,9 +193,10 @@ impl Display for Tally {
         write!(
             out,
             "refused 1 to 20: {:?}, 15 for an entry: {}, plans written: {}, done: {}, \
-             commands: {}, changed: {} by {} moves, unchanged: {}, joining (empty, other, \
-             14 for a length, 14 at a machine, 19, 12): {:?}, drawing (a text, 12): {:?}, \
-             reading (a picture, 12, 20): {:?}",
+             commands: {}, changed: {} by {} moves, unchanged: {}, by tags (13, 16, 16 \
+             for another refusal, unchanged): {:?}, joining (empty, other, 14 for a length, \
+             14 at a machine, 19, 12): {:?}, drawing (a text, 12): {:?}, reading (a picture, \
+             12, 20): {:?}",
             &self.refused[1..],
             self.unfit,
             self.written,
@@ -192,6 +205,7 @@ impl Display for Tally {
             self.moves.values().sum::<u64>(),
             self.moves.len(),
             self.unchanged,
+            self.tags,
             self.joined,
             self.drawn,
             self.read
@@ -250,6 +264,42 @@ fn on_random_rounds() {
     );
 }
 
+/// Every slice of up to so many bytes from 0 to 3.
+fn short_slices(longest: usize) -> impl Iterator<Item = Vec<u8>> {
+    let of_length = |length: usize| {
+        let slice = move |number: usize| {
+            let byte = |at| (number >> (2 * at) & 3) as u8;
+            (0..length).map(byte).collect()
+        };
+        (0..1usize << (2 * length)).map(slice)
+    };
+    (0..=longest).flat_map(of_length)
+}
+
+/// Of the slices lent as the stove's state, those fit that have each machine in
+/// one of its modes, twelve ways, with or without a tag, eight ways.
+#[test]
+fn on_every_short_state() {
+    let [next, apply] = ["next", "apply"].map(|name| Call::named(name).expect("a call"));
+    let mut input = Lent::sheet(&stove());
+    input.plan = Slot::new(&own_plan::<Rust>(&stove()).expect("a plan"));
+    input.goal = Slot::new(&[3, 2]);
+    let mut fitting = 0;
+    for state in short_slices(7) {
+        input.state = Slot::new(&state);
+        let fits = agree(next, &input, "a short state")
+            .err()
+            .is_none_or(|refusal| refusal.number != 13);
+        for (machine, command) in [(0, 1), (0, 2), (1, 1), (1, 2), (2, 1), (2, 2), (2, 3)] {
+            input.command = Command { machine, command };
+            let reply = agree(apply, &input, "a short state");
+            assert_eq!(reply.is_ok(), fits, "{state:?}");
+        }
+        fitting += fits as u32;
+    }
+    assert_eq!(fitting, 12 * 8);
+}
+
 /// Machines of two modes and of one, and every slice of up to nine bytes from 0
 /// to 3; what is joined may have one byte.
 #[test]
@@ -259,15 +309,10 @@ fn on_every_short_slice_of_wishes() {
     let mut input = Lent::sheet(&sheet);
     input.out = Slot::new(&[9]);
     let mut seen = [0; 6];
-    for length in 0..10 {
-        for number in 0..1usize << (2 * length) {
-            let bytes: Vec<u8> = (0..length)
-                .map(|at| (number >> (2 * at) & 3) as u8)
-                .collect();
-            input.wishes = Slot::new(&bytes);
-            let reply = joined(agree(join, &input, "a short slice"));
-            seen[reply.expect("a sheet that passes")] += 1;
-        }
+    for bytes in short_slices(9) {
+        input.wishes = Slot::new(&bytes);
+        let reply = joined(agree(join, &input, "a short slice"));
+        seen[reply.expect("a sheet that passes")] += 1;
     }
     assert!(seen.iter().all(|&times| times > 0), "{seen:?}");
 }

@@ -2,11 +2,12 @@
 
 use duty_compare::calls::{Call, Lent, Slot, CALLS};
 use duty_compare::command::{apply, Effect};
-use duty_compare::expected::{effect, meets, named_outside};
+use duty_compare::expected::{effect, meets, named_outside, tags_change};
 use duty_compare::join::{in_one_slice, join};
 use duty_compare::pictures::{own_text, shown};
-use duty_compare::random::{goals, lent, sheet, Random};
+use duty_compare::random::{goals, lent, sheet, state, Random};
 use duty_compare::sheet::{Sheet, MAX_MACHINES, MAX_MOVES};
+use duty_compare::state::untagged;
 use duty_compare::version::Rust;
 use duty_compare::walk::own_plan;
 use duty_compare::Reply;
@@ -84,6 +85,24 @@ fn accepted_calls_write_where_they_should() {
     }
 }
 
+/// Also shows that the rounds try every change that tags make.
+#[test]
+fn tags_only_refuse_and_hold_back() {
+    let mut seen = [0; 4];
+    for seed in 0..20_000 {
+        let input = lent(&mut Random::new(seed));
+        for name in ["next", "apply"] {
+            let call = Call::named(name).expect("a call");
+            let reply = (call.rust)(&mut input.clone());
+            let lifted = (call.rust)(&mut input.lifted());
+            if let Some(change) = tags_change(reply, lifted) {
+                seen[change] += 1;
+            }
+        }
+    }
+    assert!(seen.iter().all(|&times| times > 20), "{seen:?}");
+}
+
 /// Also shows that the rounds make moves of many numbers, and none.
 #[test]
 fn applied_commands_are_the_move_that_acts() {
@@ -121,7 +140,8 @@ fn a_state_meets_the_joined_goal_exactly_if_it_meets_each() {
         };
         for _ in 0..4 {
             let mode = |machine| random.below(read.count(machine) as usize) as u8;
-            let state: Vec<u8> = (0..read.machines()).map(mode).collect();
+            let modes: Vec<u8> = (0..read.machines()).map(mode).collect();
+            let state = untagged(&modes);
             let each = goals.iter().all(|goal| meets(&state, goal));
             assert_eq!(meets(&state, &out[..length]), each, "seed {seed}");
             seen[each as usize] += (goals.len() > 1) as u32;
@@ -149,6 +169,28 @@ fn pictures_show_the_groups_of_the_plan_and_the_needs_of_the_moves() {
         }
     }
     assert!(several > 500 && edges > 10_000, "{several} {edges}");
+}
+
+#[test]
+fn random_states_come_in_every_kind() {
+    let (mut free, mut some_tagged, mut no_tag, mut odd, mut old) = (0, 0, 0, 0, 0);
+    for seed in 0..5_000 {
+        let random = &mut Random::new(seed);
+        let bytes = sheet(random);
+        let read = Sheet::read(&bytes).unwrap_or_else(|refusal| panic!("seed {seed}: {refusal:?}"));
+        let state = state(random, &read);
+        odd += (state.len() % 2) as u32;
+        old += (state.len() == read.machines()) as u32;
+        if state.len() == 2 * read.machines() {
+            match state.chunks(2).map(|cell| cell[1]).max() {
+                Some(0) => free += 1,
+                Some(1) => some_tagged += 1,
+                _ => no_tag += 1,
+            }
+        }
+    }
+    let kinds = [free, some_tagged, no_tag, odd, old];
+    assert!(kinds.iter().all(|&times| times > 20), "{kinds:?}");
 }
 
 #[test]

@@ -10,6 +10,7 @@ use duty_compare::join::in_one_slice;
 use duty_compare::plan::SCRATCH;
 use duty_compare::refuse;
 use duty_compare::samples::{blocks, dials, filter, stove, stove_records, Builder};
+use duty_compare::state::untagged;
 
 #[test]
 fn faulty_sheets_are_refused_at_their_record() {
@@ -119,31 +120,76 @@ fn refused(state: &[u8], goal: &[u8], number: u32, place: usize) {
 }
 
 #[test]
-fn refusal_13_for_states() {
-    refused(&[2, 0, 0], &[1, 1, 1], 13, 0);
-    refused(&[0, 0, 3], &[1, 1, 1], 13, 2);
-    refused(&[0, 2, 3], &[0, 1, 1], 13, 1);
-    refused(&[9, 0], &[1, 1, 1], 13, 255);
-    refused(&[0, 0, 0, 0], &[0], 13, 255);
-    refused(&[0; 70_000], &[1], 13, 255);
-    let mut state = [0, 2, 0];
-    let reply = apply(
-        &stove(),
-        &mut state,
-        Command {
+fn refusal_13_for_a_mode() {
+    refused(&[2, 0, 0, 0, 0, 0], &[1, 1, 1], 13, 0);
+    refused(&[0, 0, 0, 0, 3, 0], &[1, 1, 1], 13, 2);
+    refused(&[0, 0, 2, 0, 3, 0], &[0, 1, 1], 13, 1);
+}
+
+#[test]
+fn refusal_13_for_a_tag_names_the_machine() {
+    refused(&[0, 2, 0, 0, 0, 0], &[1, 1, 1], 13, 0);
+    refused(&[0, 0, 0, 3, 0, 0], &[1, 1, 1], 13, 1);
+    refused(&[0, 0, 0, 0, 0, 255], &[1, 1, 1], 13, 2);
+    refused(&[0, 0, 0, 2, 0, 2], &[1, 1, 1], 13, 1);
+    // Before 14, and before 16 of another tag.
+    refused(&[0, 0, 0, 0, 0, 2], &[0], 13, 2);
+    refused(&[0, 1, 0, 0, 0, 2], &[2], 13, 2);
+}
+
+#[test]
+fn refusal_13_names_the_first_machine_of_mode_and_tag() {
+    refused(&[0, 0, 0, 2, 3, 0], &[1, 1, 1], 13, 1);
+    refused(&[0, 2, 2, 0, 3, 0], &[1, 1, 1], 13, 0);
+    refused(&[0, 0, 2, 0, 0, 2], &[1, 1, 1], 13, 1);
+    refused(&[0, 0, 0, 0, 3, 2], &[1, 1, 1], 13, 2);
+}
+
+#[test]
+fn refusal_13_for_a_length() {
+    for length in [0, 1, 2, 4, 5, 7, 8, 12, 70_000] {
+        refused(&vec![0; length], &[1], 13, 255);
+    }
+    // A byte for each machine: of three, and of two.
+    refused(&[0, 0, 0], &[1, 2, 2], 13, 255);
+    let plan = own_plan(&filter()).expect("a plan");
+    let reply = next_command(&filter(), &plan, &[0, 0], &[2]);
+    assert_eq!(reply, refuse(13, 255));
+    // Before the bytes, and before 14.
+    refused(&[9, 9], &[1, 1, 1], 13, 255);
+    refused(&[0, 2, 0, 0, 0, 0, 0], &[1, 1, 1], 13, 255);
+    refused(&[0; 8], &[0], 13, 255);
+}
+
+#[test]
+fn refusal_13_where_a_command_is_applied() {
+    let unfit: [(&[u8], usize); 6] = [
+        (&[0, 0, 2, 0, 0, 0], 1),
+        (&[0, 0, 0, 0, 0, 2], 2),
+        (&[0, 0, 0, 2, 3, 0], 1),
+        (&[0, 0, 0], 255),
+        (&[0, 0, 0, 0, 0], 255),
+        (&[0; 8], 255),
+    ];
+    for (state, place) in unfit {
+        let mut after = state.to_vec();
+        let command = Command {
             machine: 0,
             command: 1,
-        },
-    );
-    assert_eq!((reply, state), (refuse(13, 1), [0, 2, 0]));
+        };
+        let reply = apply(&stove(), &mut after, command);
+        assert_eq!((reply, &after[..]), (refuse(13, place), state));
+    }
 }
 
 #[test]
 fn refusal_14_for_goals() {
-    refused(&[0, 0, 0], &[0], 14, 0);
-    refused(&[0, 0, 0], &[1, 4, 1], 14, 1);
-    refused(&[0, 0, 0], &[1, 1, 8], 14, 2);
-    refused(&[0, 0, 0], &[0, 1, 1, 1], 14, 255);
+    refused(&[0; 6], &[0], 14, 0);
+    refused(&[0; 6], &[1, 4, 1], 14, 1);
+    refused(&[0; 6], &[1, 1, 8], 14, 2);
+    refused(&[0; 6], &[0, 1, 1, 1], 14, 255);
+    // Before 16 of a tag.
+    refused(&[0, 1, 0, 0, 0, 0], &[2, 4], 14, 1);
 }
 
 /// Joins goals of the stove, lent as bytes, into a buffer of other bytes and
@@ -249,7 +295,7 @@ fn oven() -> Vec<u8> {
 #[test]
 fn refusal_16_names_the_highest_group_out_of_order() {
     let plan = own_plan(&oven()).expect("a plan");
-    let next = |state: [u8; 3], goal: &[u8]| next_command(&oven(), &plan, &state, goal);
+    let next = |modes: [u8; 3], goal: &[u8]| next_command(&oven(), &plan, &untagged(&modes), goal);
     assert_eq!(next([2, 0, 0], &[7, 2]), refuse(16, 0));
     assert_eq!(next([2, 2, 0], &[7, 7, 2]), refuse(16, 1));
     // Through the oven, although the tray itself names only that.
@@ -260,24 +306,70 @@ fn refusal_16_names_the_highest_group_out_of_order() {
 }
 
 #[test]
+fn refusal_16_names_the_highest_group_with_a_tag() {
+    // The board is on, as the fan needs it.
+    refused(&[1, 1, 0, 0, 0, 0], &[3, 2], 16, 0);
+    // The smallest machine of fan and burner, whichever has the tag.
+    refused(&[1, 0, 0, 1, 0, 0], &[3, 2], 16, 1);
+    refused(&[1, 0, 0, 0, 0, 1], &[3, 2], 16, 1);
+    refused(&[1, 1, 0, 0, 0, 1], &[3, 2], 16, 1);
+    // The board itself is to go off.
+    refused(&[1, 1, 0, 0, 0, 0], &[1], 16, 0);
+}
+
+#[test]
+fn refusal_16_for_a_tag_or_a_failed_mode_whichever_is_higher() {
+    let plan = own_plan(&oven()).expect("a plan");
+    let next = |state: [u8; 6], goal: &[u8]| next_command(&oven(), &plan, &state, goal);
+    // Through the oven, although the tray itself names only that.
+    assert_eq!(next([0, 1, 0, 0, 0, 0], &[7, 7, 2]), refuse(16, 0));
+    assert_eq!(next([2, 0, 0, 1, 0, 0], &[7, 7, 2]), refuse(16, 1));
+    assert_eq!(next([0, 1, 2, 0, 0, 0], &[7, 7, 2]), refuse(16, 1));
+    assert_eq!(next([2, 1, 2, 1, 0, 1], &[7, 7, 2]), refuse(16, 2));
+}
+
+#[test]
+fn refusal_16_for_a_tag_comes_before_17_and_18_of_its_group() {
+    let plan = own_plan(&oven()).expect("a plan");
+    let next = |state: [u8; 6]| next_command(&oven(), &plan, &state, &[7, 4]);
+    assert_eq!(next([0, 1, 0, 0, 0, 0]), refuse(16, 0));
+    assert_eq!(next([0, 0, 0, 1, 0, 0]), refuse(16, 1));
+    // The tray waits for nothing.
+    assert_eq!(next([0, 0, 0, 0, 0, 1]), refuse(17, 1));
+    let plan = own_plan(&filter()).expect("a plan");
+    let next = |state: [u8; 4]| next_command(&filter(), &plan, &state, &[1, 2]);
+    assert_eq!(next([1, 1, 0, 0]), refuse(16, 0));
+    assert_eq!(next([1, 0, 0, 1]), refuse(16, 1));
+}
+
+#[test]
+fn refusal_17_comes_before_16_for_a_tag_in_a_lower_group() {
+    // The second machine has no moves.
+    let sheet = Builder::new().machines(2, 2).step([0, 0, 1, 1], &[]).end();
+    let plan = own_plan(&sheet).expect("a plan");
+    let next = |state: [u8; 4]| next_command(&sheet, &plan, &state, &[2, 2]);
+    assert_eq!(next([0, 1, 0, 0]), refuse(17, 1));
+    assert_eq!(next([0, 0, 0, 1]), refuse(16, 1));
+    assert_eq!(next([0, 1, 1, 0]), refuse(16, 0));
+}
+
+#[test]
 fn refusal_17_for_a_failed_mode_wished_for() {
     let plan = own_plan(&oven()).expect("a plan");
     assert_eq!(
-        next_command(&oven(), &plan, &[0, 0, 0], &[7, 4]),
+        next_command(&oven(), &plan, &[0; 6], &[7, 4]),
         refuse(17, 1)
     );
-    refused(&[1, 1, 1], &[3, 3, 4], 17, 1);
+    refused(&[1, 0, 1, 0, 1, 0], &[3, 3, 4], 17, 1);
 }
 
 #[test]
 fn refusal_18_comes_before_17_of_a_lower_group() {
     // The filter is to be fresh again (17 for itself) and the pan on.
     let plan = own_plan(&filter()).expect("a plan");
-    assert_eq!(
-        next_command(&filter(), &plan, &[1, 0], &[1, 2]),
-        refuse(18, 0)
-    );
-    assert_eq!(next_command(&filter(), &plan, &[1, 0], &[1]), refuse(17, 0));
+    let next = |goal: &[u8]| next_command(&filter(), &plan, &[1, 0, 0, 0], goal);
+    assert_eq!(next(&[1, 2]), refuse(18, 0));
+    assert_eq!(next(&[1]), refuse(17, 0));
 }
 
 #[test]

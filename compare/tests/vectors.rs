@@ -6,6 +6,7 @@ use duty_compare::calls::{Call, Lent, Side, Slot};
 use duty_compare::command::{Command, Effect, Next};
 use duty_compare::library::Library;
 use duty_compare::pictures::{own_text, shown, Drawing};
+use duty_compare::state::untagged;
 use duty_compare::version::{Rust, Version};
 use duty_compare::walk::walk;
 use duty_compare::{refuse, Reply};
@@ -24,6 +25,8 @@ struct Recording {
     file: &'static str,
     /// Whether the replies of applying have the move.
     moves: bool,
+    /// Whether the states have tags.
+    tags: bool,
 }
 
 /// The calls of document 01.
@@ -32,14 +35,16 @@ const FIRST: Recording = Recording {
     folder: "vectors",
     file: "calls.txt",
     moves: false,
+    tags: false,
 };
 
 /// All calls, as the requests of document 02 up to this one leave them.
 const LATEST: Recording = Recording {
     setting: "DUTY_TICKET_VECTORS",
     folder: "ticket-vectors",
-    file: "L4.txt",
+    file: "L5.txt",
     moves: true,
+    tags: true,
 };
 
 impl Recording {
@@ -69,6 +74,17 @@ impl Recording {
         let path = self.folder()?.join(self.file);
         let read = fs::read_to_string(&path);
         Some(read.unwrap_or_else(|error| panic!("{}: {error}", path.display())))
+    }
+
+    /// A recorded state. One without tags is read as tagless, with a zero behind
+    /// each byte: n bytes become 2n, so a wrong length stays wrong and a right one
+    /// right, and a wrong mode stays that of the same machine.
+    fn state(&self, recorded: &[u8]) -> Vec<u8> {
+        if self.tags {
+            recorded.to_vec()
+        } else {
+            untagged(recorded)
+        }
     }
 
     /// As much of a reply as the file tells: all of it, but of applying without
@@ -107,25 +123,31 @@ fn fields(line: &str) -> Vec<&str> {
     line.split(' ').collect()
 }
 
-/// The named sheets and plans of the file.
-struct Blobs {
+/// The named sheets and plans of a recording.
+struct Blobs<'a> {
+    recording: &'a Recording,
     by_name: HashMap<String, Vec<u8>>,
 }
 
-impl Blobs {
-    fn read(text: &str) -> Self {
+impl<'a> Blobs<'a> {
+    fn read(recording: &'a Recording, text: &str) -> Self {
         let lines = text.lines().filter(|line| line.starts_with("blob "));
         let by_name = lines.map(|line| {
             let fields = fields(line);
             (fields[1].to_string(), hex(fields[2]))
         });
         Blobs {
+            recording,
             by_name: by_name.collect(),
         }
     }
 
     fn slot(&self, name: &str) -> Slot {
         Slot::new(&self.by_name[name])
+    }
+
+    fn state(&self, text: &str) -> Slot {
+        Slot::new(&self.recording.state(&hex(text)))
     }
 
     /// The name of a recorded call and all that is lent for it. Slips, and a
@@ -142,12 +164,12 @@ impl Blobs {
             }
             ["next", _, plan, state, goal] | ["next", _, plan, state, goal, "-", "0", "0"] => {
                 lent.plan = self.slot(plan);
-                lent.state = Slot::new(&hex(state));
+                lent.state = self.state(state);
                 lent.goal = Slot::new(&hex(goal));
                 "next"
             }
             ["apply", _, state, machine, command] => {
-                lent.state = Slot::new(&hex(state));
+                lent.state = self.state(state);
                 lent.command = to(machine, command);
                 "apply"
             }
@@ -173,7 +195,7 @@ impl Blobs {
             ["done"] => Ok(Next::Done.value()),
             ["command", machine, command] => Ok(Next::Send(to(machine, command)).value()),
             [word @ ("changed" | "same"), state, ref step @ ..] => {
-                lent.state = Slot::new(&hex(state));
+                lent.state = self.state(state);
                 Ok(applied(word, step))
             }
             ["bytes", written] => {
@@ -239,7 +261,7 @@ fn recorded(text: &str, of_kind: fn(&str) -> bool) -> Vec<(&str, &str)> {
 /// Makes every recorded call in one version.
 fn calls_agree(recording: Recording, version: &str, side: fn(&Call) -> Side) {
     let Some(text) = recording.text() else { return };
-    let (blobs, calls) = (Blobs::read(&text), calls(&text));
+    let (blobs, calls) = (Blobs::read(&recording, &text), calls(&text));
     for (call, reply) in &calls {
         let (name, mut lent) = blobs.lent(call);
         let mut left = lent.clone();
@@ -251,7 +273,7 @@ fn calls_agree(recording: Recording, version: &str, side: fn(&Call) -> Side) {
     }
     let told = if recording.moves { "with" } else { "without" };
     say(format!(
-        "{} recorded calls of {} ({told} moves) agree with {version}",
+        "{} recorded calls of {} ({told} moves and tags) agree with {version}",
         calls.len(),
         recording.file
     ));
@@ -281,7 +303,7 @@ fn latest_calls_agree_with_the_library() {
 /// sheet must refuse exactly where the call was refused by such a number.
 fn sheets_agree(recording: Recording) {
     let Some(text) = recording.text() else { return };
-    let (blobs, calls) = (Blobs::read(&text), calls(&text));
+    let (blobs, calls) = (Blobs::read(&recording, &text), calls(&text));
     let mut refused = 0;
     for (call, reply) in &calls {
         let (_, mut lent) = blobs.lent(call);
@@ -328,14 +350,15 @@ fn bytes(path: PathBuf) -> Vec<u8> {
 /// Makes every recorded walk of the latest file in one version.
 fn latest_walks_agree<V: Version>() {
     let Some(text) = LATEST.text() else { return };
-    let (blobs, walks) = (Blobs::read(&text), walks(&text));
+    let (blobs, walks) = (Blobs::read(&LATEST, &text), walks(&text));
     for (item, lines) in &walks {
         let [_, sheet, state, goal] = fields(item)[..] else {
             panic!("unknown walk {item}");
         };
         let line = |line: &str| line.replace(',', " ") + "\n";
         let expected: String = lines.split(' ').map(line).collect();
-        let printed = walk::<V>(&blobs.by_name[sheet], &hex(state), &hex(goal));
+        let state = blobs.state(state);
+        let printed = walk::<V>(&blobs.by_name[sheet], state.get(), &hex(goal));
         assert_eq!(printed, expected, "{item}");
     }
     say(format!(
@@ -379,7 +402,7 @@ fn drawing(picture: &str) -> Drawing {
 /// Draws every recorded picture in one version and reads it back.
 fn graphs_agree<V: Version>() {
     let Some(text) = LATEST.text() else { return };
-    let (blobs, graphs) = (Blobs::read(&text), graphs(&text));
+    let (blobs, graphs) = (Blobs::read(&LATEST, &text), graphs(&text));
     for (item, picture) in &graphs {
         let sheet = &blobs.by_name[fields(item)[1]];
         let drawing = drawing(picture);
@@ -455,7 +478,8 @@ fn walks_agree<V: Version>() {
         if is_case(&path) {
             let read = |name| bytes(path.join(name));
             let expected = fs::read_to_string(path.join("expect.txt")).expect("expect.txt");
-            let printed = walk::<V>(&read("sheet.bin"), &read("state.bin"), &read("wish.bin"));
+            let state = FIRST.state(&read("state.bin"));
+            let printed = walk::<V>(&read("sheet.bin"), &state, &read("wish.bin"));
             assert_eq!(without_moves(&printed), expected, "{}", path.display());
             count += 1;
         }

@@ -13,6 +13,7 @@ use duty_compare::plan::SCRATCH;
 use duty_compare::random::{self, Random};
 use duty_compare::samples::{blocks, chain, dials, fullest, stove};
 use duty_compare::sheet::{Sheet, MAX_MACHINES};
+use duty_compare::state::{set_mode, tagged, untagged};
 use duty_compare::version::{Rust, Version};
 use duty_compare::walk::own_plan;
 use duty_compare::Reply;
@@ -78,7 +79,7 @@ fn inputs() -> Vec<Input> {
         Input::new("four-of-64", &blocks(4, 0, true)),
         Input::new("five-dials", &dials(5)),
         Input::new("six-dials", &dials(6)).only(&["plan"]),
-        Input::asked("kitchen-done", KITCHEN, &[0; 20], &[]),
+        Input::asked("kitchen-done", KITCHEN, &untagged(&[0; 20]), &[]),
     ];
     inputs.extend(chains());
     inputs.extend(eight_wishes());
@@ -87,13 +88,14 @@ fn inputs() -> Vec<Input> {
 }
 
 /// The last machine of the longest chain is to be on: attainable, then refused
-/// as 16 (the first is out of order), 17 (the last is to be out of order) and
-/// 18 (the first is to stay off).
-fn chains() -> [Input; 4] {
+/// as 16 (the first is out of order, or tagged), 17 (the last is to be out of
+/// order) and 18 (the first is to stay off).
+fn chains() -> [Input; 5] {
     let sheet = chain(MAX_MACHINES as u8);
     let last = MAX_MACHINES - 1;
-    let (off, mut broken) = ([0; MAX_MACHINES], [0; MAX_MACHINES]);
-    broken[0] = 2;
+    let off = untagged(&[0; MAX_MACHINES]);
+    let mut broken = off.clone();
+    set_mode(&mut broken, 0, 2);
     let mut last_on = [3; MAX_MACHINES];
     last_on[last] = 2;
     let (mut last_broken, mut first_off) = (last_on, last_on);
@@ -102,6 +104,7 @@ fn chains() -> [Input; 4] {
     [
         Input::asked("chain", &sheet, &off, &last_on),
         Input::asked("chain-16", &sheet, &broken, &last_on),
+        Input::asked("chain-tagged", &sheet, &tagged(&off, 0), &last_on),
         Input::asked("chain-17", &sheet, &off, &last_broken),
         Input::asked("chain-18", &sheet, &off, &first_off),
     ]
@@ -139,9 +142,10 @@ fn pictures() -> [Input; 3] {
 }
 
 /// A sheet with its own plan, or zeros as long where there is none, every
-/// machine in mode 0 and wanted in mode 1, the command of the first move, a
-/// second goal to be joined: mode 0 or 1 for the first half of the machines; and
-/// the text of its picture, with buffers for this and for what it says.
+/// machine in mode 0, untagged and wanted in mode 1, the command of the first
+/// move, a second goal to be joined: mode 0 or 1 for the first half of the
+/// machines; and the text of its picture, with buffers for this and for what it
+/// says.
 fn prepared(bytes: &[u8]) -> Lent {
     let sheet = Sheet::read(bytes).expect("a sheet");
     let length = Rust::plan_length(bytes).unwrap_or(0);
@@ -152,7 +156,7 @@ fn prepared(bytes: &[u8]) -> Lent {
     Lent {
         plan: Slot::new(&own_plan::<Rust>(bytes).unwrap_or(vec![0; length as usize])),
         scratch: Slot::new(&[0; SCRATCH]),
-        state: Slot::new(&vec![0; sheet.machines()]),
+        state: Slot::new(&untagged(&vec![0; sheet.machines()])),
         goal: Slot::new(&goal),
         command: Command {
             machine: first.machine as u8,
