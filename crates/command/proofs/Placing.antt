@@ -1,7 +1,7 @@
 -- A state that passes 13, for a plan in shape: its length, its modes, and the number of each machine's group. The same of
 -- what a question keeps.
 -- Assumes nothing.
-use Prim.Native.Nat.{ℕ, _≤_, _<_}
+use Prim.Native.Nat.{ℕ, _+_, _*_, _≤_, _<_}
 use mathlib.Core.Path.{_≡_, ap, _∙_}
 use mathlib.Core.List.{List}
 use native.Mathlib.Omega.{arith}
@@ -50,6 +50,10 @@ module _ {m : Model} {plan state numbers : List ℕ} (p : Placed m plan state nu
 
   pub placed-numbers : length numbers ≡ machineCount m
   placed-numbers = ap length (p .numbered) ∙ placed-groups
+
+  -- the bytes of each machine are there
+  pub placed-inside : (i : ℕ) → i < length numbers → 2 * i + 1 < length state
+  placed-inside i h = omega (arith, placed-numbers, placed-sound .long)
 
   pub placed-few : length numbers ≤ 32
   placed-few = omega (arith, placed-numbers, p .valid .few-machines)

@@ -3,7 +3,7 @@
 use crate::query::size_of;
 use crate::query::weights;
 use crate::state::LENGTH;
-use crate::state::mode_of;
+use crate::state::mode_at;
 use plan::sizing::Group;
 use plan::sizing::group_of;
 use plan::standing::within;
@@ -100,9 +100,8 @@ pub fn unmet(masks: &[u8], state: &[u8], numbers: &[u8]) -> u64
     let mut r: u64 = 0;
     let mut i: usize = 0;
     while i < numbers.len() {
-        let m = Machine(i as u8);
-        let k = group_of(numbers, m);
-        r = sets::put_if(r, wide(k.0), !has_mode(masks[i], mode_of(state, m)));
+        let k = group_of(numbers, Machine(i as u8));
+        r = sets::put_if(r, wide(k.0), !has_mode(masks[i], mode_at(state, i)));
         i += 1;
     }
     r

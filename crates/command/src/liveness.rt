@@ -1,6 +1,6 @@
 // Which groups are live, as 16 judges it.
-use crate::state::mode_of;
-use crate::state::tag_of;
+use crate::state::mode_at;
+use crate::state::tag_at;
 use plan::sizing::group_of;
 use sheet::bits::has_mode;
 use sheet::index::Machine;
@@ -21,11 +21,10 @@ pub fn failed(state: &[u8], live: &[u8], numbers: &[u8]) -> u64
     let mut r: u64 = 0;
     let mut i: usize = 0;
     while i < numbers.len() {
-        let m = Machine(i as u8);
-        let k = group_of(numbers, m);
+        let k = group_of(numbers, Machine(i as u8));
         let at = wide(k.0);
-        r = sets::put_if(r, at, !has_mode(live[i], mode_of(state, m)));
-        r = sets::put_if(r, at, tag_of(state, m) != 0);
+        r = sets::put_if(r, at, !has_mode(live[i], mode_at(state, i)));
+        r = sets::put_if(r, at, tag_at(state, i) != 0);
         i += 1;
     }
     r

@@ -6,7 +6,7 @@ use sheet::refusal::Cause;
 use sheet::refusal::Verdict;
 ghost use mathlib.Core.Path.{_≡_};
 ghost use mathlib.Core.Bool.{true};
-ghost use Prim.Native.Nat.{ℕ, _*_, _≤_, _<_};
+ghost use Prim.Native.Nat.{ℕ, _+_, _*_, _≤_, _<_};
 ghost use lib.ListN.{length, getD, set};
 ghost use Rattle.common.specs.Lists.{upTo, find};
 ghost use Rattle.common.specs.Reply.{given, unless, clear};
@@ -29,14 +29,30 @@ pub fn machines_in(state: &[u8]) -> usize
     state.len() / 2
 }
 
-// The mode of a machine: with its tag the only reader of a state's bytes.
+// The mode of machine i, of those that a state is for. This function and the next three alone read a state's bytes.
+pub fn mode_at(state: &[u8], i: usize) -> u8
+    requires { ⌜ 2 * i < length (now state) ⌝ }
+    ensures { λ r. ⌜ r ≡ modeOf (now (state .entry)) i ⌝ }
+{
+    state[2 * i]
+}
+
+// Its tag: 1 if nobody may move it, else 0.
+pub fn tag_at(state: &[u8], i: usize) -> u8
+    requires { ⌜ 2 * i + 1 < length (now state) ⌝ }
+    ensures { λ r. ⌜ r ≡ tagOf (now (state .entry)) i ⌝ }
+{
+    state[2 * i + 1]
+}
+
+// The mode of any machine, 0 where the state is too short to have it.
 pub fn mode_of(state: &[u8], m: Machine) -> u8
     ensures { λ r. ⌜ r ≡ modeOf (now (state .entry)) (m .0) ⌝ }
 {
     byte_at(state, 2 * wide(m.0))
 }
 
-// The tag of a machine: 1 if nobody may move it, else 0.
+// Its tag.
 pub fn tag_of(state: &[u8], m: Machine) -> u8
     ensures { λ r. ⌜ r ≡ tagOf (now (state .entry)) (m .0) ⌝ }
 {
@@ -54,14 +70,13 @@ pub fn put_mode(state: &mut [u8], m: Machine, mode: u8)
 
 // The first of n machines whose mode is absent or whose tag is neither 0 nor 1, or n.
 fn first_bad(state: &[u8], modes: &[u8], n: usize) -> usize
-    requires { ⌜ (n ≤ 32) × (length (now modes) ≡ 32) ⌝ }
+    requires { ⌜ (n ≤ 32) × (length (now modes) ≡ 32) × (length (now state) ≡ 2 * n) ⌝ }
     ensures { λ r. ⌜ ((m : Model) → CountsOf m (now (modes .entry))
         → r ≡ find (badPair m (now (state .entry))) (upTo n) n) ⌝ }
 {
     let mut i: usize = 0;
     while i < n {
-        let m = Machine(i as u8);
-        if modes[i] <= mode_of(state, m) || 2 <= tag_of(state, m) {
+        if modes[i] <= mode_at(state, i) || 2 <= tag_at(state, i) {
             return i;
         }
         i += 1;
@@ -97,7 +112,7 @@ pub fn present(state: &[u8], numbers: &[u8], weights: &[u8]) -> [u8; 32]
     let mut i: usize = 0;
     while i < numbers.len() {
         let k = wide(numbers[i]);
-        r[k] += mode_of(state, Machine(i as u8)) * weights[i];
+        r[k] += mode_at(state, i) * weights[i];
         i += 1;
     }
     r

@@ -2,7 +2,7 @@ use Prim.Native.Nat.{_-_}
 use native.Mathlib.Omega.{arith}
 use lib.ListN.{length}
 use borrow.Author.Needs.{needs}
-use Rattle.command.proofs.Placing.{placed-few, placed-number}
+use Rattle.command.proofs.Placing.{placed-inside, placed-few, placed-number}
 use Rattle.command.proofs.MaskLoop.{UnmetUpto, unmet-none, unmet-next, unmet-end}
 use Rattle.command.proofs.goal.unmet.Statement.{statement}
 use Rattle.command.proofs.goal.unmet.Tie as tie
@@ -30,8 +30,10 @@ shared-slice-read-has-mode c =
     let (m, plan, p) = c .before .before .before .before .before .before .before .before .pre .0 in
     omega (arith, placed-few p, c .before .before .before .before .before .before .before .before .pre .1)
 
-mode-of-requires : tie.Need-mode-of-requires Inv-loop μ-loop
-mode-of-requires c κs = search needs
+mode-at-requires : tie.Need-mode-at-requires Inv-loop μ-loop
+mode-at-requires c κs =
+    let (m, plan, p) = c .before .before .before .before .before .before .before .before .pre .0 in
+    omega (arith, placed-inside p (c .before .before .before .before .loop .i) (c .before .before .before .loop-test .taken))
 
 has-mode-requires : tie.Need-has-mode-requires Inv-loop μ-loop
 has-mode-requires c κs = search needs
@@ -59,7 +61,7 @@ loop-again c =
     (c .before .before .before .before .before .before .loop-test .taken)
     (c .before .before .before .before .before .group-of .ensures)
     (c .before .before .before .before .wide .ensures .0)
-    (c .before .before .mode-of .ensures)
+    (c .before .before .mode-at .ensures)
     (c .before .has-mode .ensures)
     (c .put-if .ensures)
 
@@ -77,7 +79,7 @@ unmet-spec =
     group-of-requires
     wide-requires
     shared-slice-read-has-mode
-    mode-of-requires
+    mode-at-requires
     has-mode-requires
     put-if-requires
     add-i

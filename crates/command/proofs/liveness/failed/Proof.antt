@@ -2,7 +2,7 @@ use Prim.Native.Nat.{_-_}
 use native.Mathlib.Omega.{arith}
 use lib.ListN.{length}
 use borrow.Author.Needs.{needs}
-use Rattle.command.proofs.Placing.{placed-few, placed-live, placed-number}
+use Rattle.command.proofs.Placing.{placed-inside, placed-few, placed-live, placed-number}
 use Rattle.command.proofs.MaskLoop.{FailedUpto, failed-none, failed-next, failed-end}
 use Rattle.command.proofs.liveness.failed.Statement.{statement}
 use Rattle.command.proofs.liveness.failed.Tie as tie
@@ -30,8 +30,10 @@ shared-slice-read-has-mode c =
     let (m, plan, p, s) = c .before .before .before .before .before .before .before .before .pre in
     omega (arith, placed-few p, placed-live p s)
 
-mode-of-requires : tie.Need-mode-of-requires Inv-loop μ-loop
-mode-of-requires c κs = search needs
+mode-at-requires : tie.Need-mode-at-requires Inv-loop μ-loop
+mode-at-requires c κs =
+    let (m, plan, p, s) = c .before .before .before .before .before .before .before .before .pre in
+    omega (arith, placed-inside p (c .before .before .before .before .loop .i) (c .before .before .before .loop-test .taken))
 
 has-mode-requires : tie.Need-has-mode-requires Inv-loop μ-loop
 has-mode-requires c κs = search needs
@@ -46,8 +48,11 @@ put-if-requires c κs =
       c .before .before .before .before .group-of .ensures,
     )
 
-tag-of-requires : tie.Need-tag-of-requires Inv-loop μ-loop
-tag-of-requires c κs = search needs
+tag-at-requires : tie.Need-tag-at-requires Inv-loop μ-loop
+tag-at-requires c κs =
+    let at-slice = c .before .before .before in
+    let (m, plan, p, s) = at-slice .before .before .before .before .before .before .before .before .pre in
+    omega (arith, placed-inside p (at-slice .before .before .before .before .loop .i) (at-slice .before .before .before .loop-test .taken))
 
 put-if-requires-2 : tie.Need-put-if-requires-2 Inv-loop μ-loop
 put-if-requires-2 c κs = put-if-requires (c .before .before) κs
@@ -68,10 +73,10 @@ loop-again c =
     (at-group .before .loop-test .taken)
     (at-group .group-of .ensures)
     (at-mode .before .before .wide .ensures .0)
-    (at-mode .mode-of .ensures)
+    (at-mode .mode-at .ensures)
     (at-put .before .has-mode .ensures)
     (at-put .put-if .ensures)
-    (c .before .tag-of .ensures)
+    (c .before .tag-at .ensures)
     (c .put-if2 .ensures)
 
 returns : tie.Need-returns Inv-loop μ-loop
@@ -88,10 +93,10 @@ failed-spec =
     group-of-requires
     wide-requires
     shared-slice-read-has-mode
-    mode-of-requires
+    mode-at-requires
     has-mode-requires
     put-if-requires
-    tag-of-requires
+    tag-at-requires
     put-if-requires-2
     add-i
     loop-less

@@ -14,17 +14,14 @@ abbrev μ-loop : tie.MeasureT-loop
 loop-holds : tie.Need-loop-holds Inv-loop μ-loop
 loop-holds c = (search needs, pairs-none)
 
-cast-if1 : tie.Need-cast-if1 Inv-loop μ-loop
-cast-if1 c = search needs
-
 shared-slice-read-if1 : tie.Need-shared-slice-read-if1 Inv-loop μ-loop
 shared-slice-read-if1 c = search needs
 
-mode-of-requires : tie.Need-mode-of-requires Inv-loop μ-loop
-mode-of-requires c κs = search needs
+mode-at-requires : tie.Need-mode-at-requires Inv-loop μ-loop
+mode-at-requires c κs = search needs
 
-tag-of-requires : tie.Need-tag-of-requires Inv-loop μ-loop
-tag-of-requires c κs = search needs
+tag-at-requires : tie.Need-tag-at-requires Inv-loop μ-loop
+tag-at-requires c κs = search needs
 
 returns : tie.Need-returns Inv-loop μ-loop
 returns c m h =
@@ -32,8 +29,8 @@ returns c m h =
     let inv = at-mode .before .before .before .loop .inv .1 in
     let test = at-mode .before .before .loop-test .taken in
     ⊎-elim
-    (λ w. bad-mode inv (at-mode .mode-of .ensures) test m h (w .taken))
-    (λ w. bad-tag inv (at-mode .mode-of .ensures) test m h (w .1 .ensures) (w .2 .taken))
+    (λ w. bad-mode inv (at-mode .mode-at .ensures) test m h (w .taken))
+    (λ w. bad-tag inv (at-mode .mode-at .ensures) test m h (w .1 .ensures) (w .2 .taken))
     (c .if1 .came)
 
 add-i : tie.Need-add-i Inv-loop μ-loop
@@ -47,8 +44,8 @@ loop-again c =
     let at-mode = c .before .before .before in (
       search needs,
       pairs-next
-          (at-mode .before .before .before .loop .inv .1) (at-mode .mode-of .ensures) (c .before .before .if1 .left)
-          (c .before .tag-of .ensures) (c .if2 .left),
+          (at-mode .before .before .before .loop .inv .1) (at-mode .mode-at .ensures) (c .before .before .if1 .left)
+          (c .before .tag-at .ensures) (c .if2 .left),
     )
 
 returns-2 : tie.Need-returns-2 Inv-loop μ-loop
@@ -61,10 +58,9 @@ first-bad-spec =
     Inv-loop
     μ-loop
     loop-holds
-    cast-if1
     shared-slice-read-if1
-    mode-of-requires
-    tag-of-requires
+    mode-at-requires
+    tag-at-requires
     returns
     add-i
     loop-less

@@ -2,6 +2,7 @@ use Prim.Native.Nat.{_-_}
 use native.Mathlib.Omega.{arith}
 use lib.ListN.{length}
 use borrow.Author.Needs.{needs}
+use Rattle.command.proofs.Shape.{sound-state}
 use Rattle.command.proofs.PresentLoop.{PresentUpto, number-place, present-none, mode-byte, sum-byte}
 use Rattle.command.proofs.PresentLoop.{present-next, present-end}
 use Rattle.command.proofs.state.present.Statement.{statement}
@@ -22,13 +23,10 @@ shared-slice-read-wide c = search needs
 wide-requires : tie.Need-wide-requires Inv-loop μ-loop
 wide-requires c κs = search needs
 
-cast-t11 : tie.Need-cast-t11 Inv-loop μ-loop
-cast-t11 c =
+mode-at-requires : tie.Need-mode-at-requires Inv-loop μ-loop
+mode-at-requires c κs =
     let (m, w, passes, places) = c .before .before .before .before .before .before .before .pre in
-    omega (arith, w .all-machines, w .valid .few-machines)
-
-mode-of-requires : tie.Need-mode-of-requires Inv-loop μ-loop
-mode-of-requires c κs = search needs
+    omega (arith, w .all-machines, sound-state m _ passes .long)
 
 shared-slice-read-r : tie.Need-shared-slice-read-r Inv-loop μ-loop
 shared-slice-read-r c =
@@ -39,7 +37,7 @@ mul-r : tie.Need-mul-r Inv-loop μ-loop
 mul-r c =
     let (m, w, passes, places) = c .before .before .before .before .before .before .before .before .before .pre in
     let below = c .before .before .before .before .loop-test .taken in
-    omega (arith, mode-byte _ _ _ w below passes (c .before .mode-of .ensures))
+    omega (arith, mode-byte _ _ _ w below passes (c .before .mode-at .ensures))
 
 array-read-r : tie.Need-array-read-r Inv-loop μ-loop
 array-read-r c =
@@ -55,7 +53,7 @@ add-r c =
     let upto = c .before .before .before .before .before .loop .inv in
     omega (
       arith,
-      sum-byte _ _ _ w below passes upto places (c .before .before .wide .ensures .0) (c .before .mode-of .ensures),
+      sum-byte _ _ _ w below passes upto places (c .before .before .wide .ensures .0) (c .before .mode-at .ensures),
     )
 
 array-write-r : tie.Need-array-write-r Inv-loop μ-loop
@@ -72,7 +70,7 @@ loop-again c =
     let (m, w, passes, places) = c .before .before .before .before .before .before .before .before .before .pre in
     let below = c .before .before .before .before .loop-test .taken in
     let upto = c .before .before .before .before .before .loop .inv in
-    present-next _ _ _ upto places below (c .before .before .wide .ensures .0) (c .before .mode-of .ensures)
+    present-next _ _ _ upto places below (c .before .before .wide .ensures .0) (c .before .mode-at .ensures)
 
 returns : tie.Need-returns Inv-loop μ-loop
 returns c m w passes = present-end _ _ _ (c .before .loop .inv) (c .loop-test .left) m w
@@ -86,8 +84,7 @@ present-spec =
     loop-holds
     shared-slice-read-wide
     wide-requires
-    cast-t11
-    mode-of-requires
+    mode-at-requires
     shared-slice-read-r
     mul-r
     array-read-r
