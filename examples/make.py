@@ -213,6 +213,11 @@ def dials(number):
     return k
 
 
+def lamps():
+    """As many machines as a sheet can have, each with one mode."""
+    return Kitchen([(f"lamp_{n}", ["on"]) for n in range(32)])
+
+
 def bad_morning(k):
     """Left half done the day before, then all supplies cut."""
     return k.state(kettle_2="heating", oven_2="heating", steamer="moist", washer="washing")
@@ -238,9 +243,9 @@ def walk(name, k, state, wish):
 
 
 def walks():
-    """The walk's cases of document 01, a bad morning, a sheet that cannot be planned, and two tags: one on a machine that
-    is needed, one on a machine that is not."""
-    s, k, f, d = stove(), kitchen(), filter_and_pan(), dials(6)
+    """The walk's cases of document 01, a bad morning, a sheet that cannot be planned, two tags: one on a machine that is
+    needed, one on a machine that is not; and the longest state with a byte too many."""
+    s, k, f, d, l = stove(), kitchen(), filter_and_pan(), dials(6), lamps()
     return {
         **walk("case_3", s, s.state(), s.wish(board="off", fan="on", burner="lit")),
         **walk("case_4", s, s.state(board="on", fan="on", burner="tripped"),
@@ -252,6 +257,7 @@ def walks():
         **walk("bad_morning", k, bad_morning(k), breakfast(k)),
         **walk("tagged", s, s.state(tagged="board", board="on"), s.wish(fan="on")),
         **walk("tag_aside", k, night(k, tagged="range"), k.wish(oven_1="holding", oven_2="heating")),
+        **walk("long_state", l, l.state() + bytes(1), l.wish()),
     }
 
 

@@ -47,5 +47,5 @@ fn example_walks_print_what_is_expected() {
             count += 1;
         }
     }
-    assert_eq!(count, 10, "example walks");
+    assert_eq!(count, 11, "example walks");
 }
