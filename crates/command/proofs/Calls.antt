@@ -109,7 +109,8 @@ module _ {lent : Lent} {d : Parsed} {Usable : ℕ → Type 0} {longest cost : �
       keeps-apply s kept (p .0) (p .1) (p .2)
   keeps-call s kept (refusedNext other) h = record { kept = kept; wished = λ g w. w; same-tags = λ i. refl }
   keeps-call s kept (refusedApply sheet i c) h =
-      subst (KeepsTo s) (sym (after-refused lent s sheet i c h)) (record { kept = kept; wished = λ g w. w; same-tags = λ i. refl })
+      subst (KeepsTo s) (sym (after-refused lent s sheet i c h))
+      (record { kept = kept; wished = λ g w. w; same-tags = λ i. refl })
 
   -- through the first calls of a run; the others are a run from there
   pub keeps-all : {s : Situation} → Kept (d .model) lent Usable cost s → (before later : List Call)

@@ -29,7 +29,8 @@ module _ (m : Model) (state : List ℕ) (sound : Sound m state) (i mode : ℕ) (
   unfolding liveGroup
   changed-live live plan a l =
       all-intro _ (members (groupsIn m plan) a) (λ j h. by-cases (eqb j i)
-      (λ t. and-intro {a = isLive m j (modeOf (withMode state i mode) j)} (rw (eqb-true j i t, changed-mode) live) (kept-tag j h))
+      (λ t.
+      and-intro {a = isLive m j (modeOf (withMode state i mode) j)} (rw (eqb-true j i t, changed-mode) live) (kept-tag j h))
       (λ f. rw (mode-elsewhere state i mode j (eqb-false j i f), tag-kept state i mode j) (all-at _ l h)))
     where
       -- the tags are as before

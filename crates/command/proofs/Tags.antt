@@ -23,8 +23,8 @@ pub laid-out : LaidOut
 laid-out state i = (mode-byte state i, tag-byte state i)
 
 -- what is picked is replied, and has no tag
-picked-free : {sheet plan state goal : List ℕ} (d : Parsed) (i c : ℕ) (r : MethodRight (d .model) sheet plan state goal) (p : Pick)
-    → r .pick ≡ p → nextReply sheet plan state goal ≡ given (command i c) → tagOf state i ≡ 0
+picked-free : {sheet plan state goal : List ℕ} (d : Parsed) (i c : ℕ) (r : MethodRight (d .model) sheet plan state goal)
+    (p : Pick) → r .pick ≡ p → nextReply sheet plan state goal ≡ given (command i c) → tagOf state i ≡ 0
 picked-free d i c r noneUnmet q e = absurd (done-not-command (sym (r .replied ∙ ap (pickReply (d .model)) q) ∙ e))
 picked-free d i c r unfitEntry q e = absurd (given-not-refused (sym e ∙ r .replied ∙ ap (pickReply (d .model)) q))
 picked-free {plan = plan} {state} {goal} d i c r (entryMove v) q e =

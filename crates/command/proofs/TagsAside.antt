@@ -12,13 +12,14 @@ use Rattle.common.proofs.Bools.{by-cases}
 use Rattle.common.proofs.Lists.{all-cong}
 use Rattle.common.proofs.Sums.{flatMap-cong}
 use Rattle.sheet.specs.Model.{Model, machineCount}
-use Rattle.plan.specs.Groups.{groupCount, members}
+use Rattle.plan.specs.Groups.{groupOf, groupCount, members}
 use Rattle.plan.specs.Reading.{groupsIn, wellShaped}
 use Rattle.plan.proofs.Modes.{member-of}
-use Rattle.command.specs.State.{modes, tagOf, goalFaults}
+use Rattle.command.specs.State.{modes, modeOf, tagOf, goalFaults}
 use Rattle.command.specs.Goal.{Masks, goalMasks, met}
 use Rattle.command.specs.Ancestors.{downTo, upstreamIn}
 use Rattle.command.specs.Attainable.{liveGroup, deadEnd, groupFaults, attainFaults}
+use Rattle.command.specs.TurnedDown.{StateFits}
 use Rattle.command.specs.Uncovered.{Concerns}
 use Rattle.command.specs.Tagless.{plainFulfil}
 use Rattle.command.specs.Tags.{Concerned, TagsAside}
@@ -37,7 +38,8 @@ module _ (m : Model) (plan : List ℕ) (masks : Masks) (state other : List ℕ) 
     unfolding liveGroup
     live-same a c =
         all-cong _ _ (members (groupsIn m plan) a) (λ i l.
-        let tag = agree i (record { group = k; below = below; unmet = unmet; concerns = rw (member-of (groupsIn m plan) a l) c }) in
+        let here : Concerns m plan state masks k (groupOf (groupsIn m plan) i) = rw (member-of (groupsIn m plan) a l) c in
+        let tag = agree i (record { group = k; below = below; unmet = unmet; concerns = here }) in
         rw (same, tag))
 
     -- of 16
@@ -63,12 +65,17 @@ module _ (m : Model) (plan : List ℕ) (masks : Masks) (state other : List ℕ) 
       (λ t. rw (t, sym (met-same k) ∙ t))
       (λ f. rw (f, sym (met-same k) ∙ f) (faults-same k (downTo-below _ l) f)))
 
+-- states with the same modes have the same list of them
+modes-same : (m : Model) (state other : List ℕ) → StateFits m state → StateFits m other
+    → ((i : ℕ) → i < machineCount m → modeOf state i ≡ modeOf other i) → modes state ≡ modes other
+modes-same m state other fits also agree =
+    let long = length-modes state (machineCount m) (fits .0) in
+    ext-getD 0 _ _ (long ∙ sym (length-modes other (machineCount m) (also .0))) (λ i l. agree i (omega arith))
+
 pub tags-aside : TagsAside
 tags-aside sheet plan state other goal d parses fits also modes-agree agree =
     let m = d .model in
-    let n = machineCount m in
-    let long = length-modes state n (fits .0) in
-    let same : modes state ≡ modes other = ext-getD 0 _ _ (long ∙ sym (length-modes other n (also .0))) (λ i l. modes-agree i (omega arith)) in
+    let same = modes-same m state other fits also modes-agree in
     by-cases (wellShaped m plan)
     (λ shaped.
     state-judged sheet plan state goal d parses shaped fits

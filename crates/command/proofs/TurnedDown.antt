@@ -42,10 +42,11 @@ module _ (m : Model) where
   pub present-exactly : (state : List ℕ) (i : ℕ) → (badPair m state i ≡ false) ↔ Present m state i
   unfolding badPair
   present-exactly state i = (
-    λ f. (
-      rw (mode-byte state i) at (leb-false (modeCount m i) (modeOf state i) (or-false-left (leb (modeCount m i) (modeOf state i)) _ f)),
-      rw (tag-byte state i) at (leb-false 2 (tagOf state i) (or-false-right (leb (modeCount m i) (modeOf state i)) _ f)),
-    ),
+    λ f.
+        let absent = leb (modeCount m i) (modeOf state i) in (
+          rw (mode-byte state i) at (leb-false (modeCount m i) (modeOf state i) (or-false-left absent _ f)),
+          rw (tag-byte state i) at (leb-false 2 (tagOf state i) (or-false-right absent _ f)),
+        ),
     λ p. or-false-intro
         (lt-leb (modeCount m i) (modeOf state i) (rw (mode-byte state i) (p .0)))
         (lt-leb 2 (tagOf state i) (rw (tag-byte state i) (p .1))),

@@ -232,10 +232,10 @@ unfolding
     tableOf longest costIn costsUpto boundOf planBound counted twoBytes fourBytes recordOf tableIn bytesOf tableLength tableAt
     planLength large largeGroup largePlace largePlan largeBound sizeFaults wrongBuffer ownPlan lengthReply
     planReply groupsIn tableOfGroup entryIn entryAt hasRecord gapless needsFirst fitsRecords wellShaped boundIn
-    everySecond modes tags withMode tagless badPair stateFaults badByte goalFaults goalMasks guardMasks met allowed downTo groupGraph upstream
-    liveGroup attains deadEnd highest faultOf groupFaults attainFaults nearest targetOf holdsInside holdsOutside
-    unfit prepareBy followBy fulfil goalRefusals misshapen nextReply acts actingMove stateBy applyReply after
-    afterAll obeyReply turnReply obey walkLines
+    everySecond modes tags withMode tagless badPair stateFaults badByte goalFaults goalMasks guardMasks met allowed
+    downTo groupGraph upstream liveGroup attains deadEnd highest faultOf groupFaults attainFaults nearest targetOf
+    holdsInside holdsOutside unfit prepareBy followBy fulfil goalRefusals misshapen nextReply acts actingMove stateBy
+    applyReply after afterAll obeyReply turnReply obey walkLines
 cases-hold =
     (refl, refl, refl, refl) ⊗ refl ⊗ refl ⊗ refl ⊗ refl ⊗ refl ⊗ (refl, refl, refl, refl) ⊗ refl ⊗ refl ⊗ refl
     ⊗ refl ⊗ refl ⊗ refl ⊗ refl ⊗ refl ⊗ refl ⊗ refl ⊗ refl ⊗ refl ⊗ refl ⊗ refl ⊗ refl ⊗ refl ⊗ refl ⊗ refl ⊗ refl

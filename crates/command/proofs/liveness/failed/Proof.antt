@@ -52,7 +52,8 @@ tag-at-requires : tie.Need-tag-at-requires Inv-loop μ-loop
 tag-at-requires c κs =
     let at-slice = c .before .before .before in
     let (m, plan, p, s) = at-slice .before .before .before .before .before .before .before .before .pre in
-    omega (arith, placed-inside p (at-slice .before .before .before .before .loop .i) (at-slice .before .before .before .loop-test .taken))
+    let at-test = at-slice .before .before .before in
+    omega (arith, placed-inside p (at-test .before .loop .i) (at-test .loop-test .taken))
 
 put-if-requires-2 : tie.Need-put-if-requires-2 Inv-loop μ-loop
 put-if-requires-2 c κs = put-if-requires (c .before .before) κs
