@@ -45,8 +45,8 @@ class Kitchen:
         return b"".join(machines + [record(2, move) for move in self.moves] + [record(3)])
 
     def state(self, tagged="", **modes):
-        """Mode and tag of every machine: in its first mode but for those named, with a tag on those that `tagged` names,
-        words in one string."""
+        """Mode and tag of every machine: its first mode but for those named, and a tag on those in `tagged`, names in one
+        string."""
         tags = {self.names.index(name) for name in tagged.split()}
         pairs = [(m.index(modes.get(name, m[0])), int(i in tags)) for i, (name, m) in enumerate(self.machines)]
         return b"".join(map(bytes, pairs))
@@ -245,7 +245,7 @@ def walk(name, k, state, wish):
 def walks():
     """The walk's cases of document 01, a bad morning, a sheet that cannot be planned, two tags: one on a machine that is
     needed, one on a machine that is not; and the longest state with a byte too many."""
-    s, k, f, d, l = stove(), kitchen(), filter_and_pan(), dials(6), lamps()
+    s, k, f, d, many = stove(), kitchen(), filter_and_pan(), dials(6), lamps()
     return {
         **walk("case_3", s, s.state(), s.wish(board="off", fan="on", burner="lit")),
         **walk("case_4", s, s.state(board="on", fan="on", burner="tripped"),
@@ -257,7 +257,7 @@ def walks():
         **walk("bad_morning", k, bad_morning(k), breakfast(k)),
         **walk("tagged", s, s.state(tagged="board", board="on"), s.wish(fan="on")),
         **walk("tag_aside", k, night(k, tagged="range"), k.wish(oven_1="holding", oven_2="heating")),
-        **walk("long_state", l, l.state() + bytes(1), l.wish()),
+        **walk("long_state", many, many.state() + bytes(1), many.wish()),
     }
 
 

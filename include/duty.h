@@ -79,10 +79,10 @@ uint64_t duty_plan(const uint8_t *sheet, size_t n, uint8_t *plan, size_t plan_n,
 /* The next command toward a wish, for any plan whose shape fits the sheet
  * (refusals 1 to 8, 15, 13, 14, 16 to 18, then 15 for an entry that cannot be
  * followed). 13 names the first machine with a mode that it does not have or a
- * tag above 1. 16 is also for a tag in a group that is not as wished, or that such
- * a group needs, directly or through others: no command is ever sent to a tagged
- * machine. All bytes are only read. Value: 0 for done, else 65536 + 256 * machine
- * + command. */
+ * tag above 1. 16 also stands for a tag on a machine of a group that is not as
+ * wished, or of one that such a group needs, directly or through others, even if
+ * the machine is as needed: no command is ever sent to a tagged machine. All bytes
+ * are only read. Value: 0 for done, else 65536 + 256 * machine + command. */
 uint64_t duty_next(const uint8_t *sheet, size_t n, const uint8_t *plan, size_t plan_n,
                    const uint8_t *state, size_t state_n, const uint8_t *wish, size_t wish_n);
 

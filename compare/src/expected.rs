@@ -65,7 +65,7 @@ pub fn tags_change(reply: Reply<u32>, lifted: Reply<u32>) -> Option<usize> {
     match (number, lifted) {
         _ if reply == lifted => None,
         (Some(13), _) => Some(0),
-        (Some(16), Ok(_)) => Some(1),
+        (Some(16), Ok(value)) if value != Next::Done.value() => Some(1),
         (Some(16), Err(_)) => Some(2),
         (None, Ok(_)) if reply == Ok(Effect::Nothing.value()) => Some(3),
         _ => panic!("tags make {reply:?} of {lifted:?}"),

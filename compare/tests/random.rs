@@ -173,23 +173,23 @@ fn pictures_show_the_groups_of_the_plan_and_the_needs_of_the_moves() {
 
 #[test]
 fn random_states_come_in_every_kind() {
-    let (mut free, mut some_tagged, mut no_tag, mut odd, mut old) = (0, 0, 0, 0, 0);
+    let (mut free, mut some_tagged, mut bad_tag, mut odd, mut one_byte) = (0, 0, 0, 0, 0);
     for seed in 0..5_000 {
         let random = &mut Random::new(seed);
         let bytes = sheet(random);
         let read = Sheet::read(&bytes).unwrap_or_else(|refusal| panic!("seed {seed}: {refusal:?}"));
         let state = state(random, &read);
         odd += (state.len() % 2) as u32;
-        old += (state.len() == read.machines()) as u32;
+        one_byte += (state.len() == read.machines()) as u32;
         if state.len() == 2 * read.machines() {
             match state.chunks(2).map(|cell| cell[1]).max() {
                 Some(0) => free += 1,
                 Some(1) => some_tagged += 1,
-                _ => no_tag += 1,
+                _ => bad_tag += 1,
             }
         }
     }
-    let kinds = [free, some_tagged, no_tag, odd, old];
+    let kinds = [free, some_tagged, bad_tag, odd, one_byte];
     assert!(kinds.iter().all(|&times| times > 20), "{kinds:?}");
 }
 

@@ -150,7 +150,7 @@ module _ {lent : Lent} {d : Parsed} {Usable : ℕ → Type 0} {longest cost : �
           answered = ⊎-elim (λ r. (done, r .0)) (λ r. (command (r .0) (r .1), r .2)) answer;
           done-exactly = (done-reached, reached-done);
           finds-needs = λ i c e. answers-now (replied i c e);
-          untagged = λ i c e. answers-now (replied i c e) .1 .no-tag;
+          no-tag = λ i c e. answers-now (replied i c e) .1 .no-tag;
           within-bound = λ i c e. Kept.sent-within (ground .valid) (ground .laws) kept (replied i c e .sent);
         }
 

@@ -56,8 +56,8 @@ unfolding afterAll
 afterAll-append lent s [] ys = refl
 afterAll-append lent s (c ∷ xs) ys = afterAll-append lent (after lent s c) xs ys
 
--- from one situation to another: what a run keeps is kept, all groups from g upward that were as wished are so, and no tag
--- is another
+-- from one situation to another: what a run keeps is kept, all groups from g upward that were as wished are so, and the
+-- tags are the same
 module _ (m : Model) (lent : Lent) (Usable : ℕ → Type 0) (cost : ℕ → ℕ) where
   pub record Keeps (s t : Situation) : Type 0 where
     pub kept : Kept m lent Usable cost t

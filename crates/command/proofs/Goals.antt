@@ -22,15 +22,18 @@ use Rattle.plan.specs.Groups.{Grouping, groupOf, members, movesOf, namedOutside
 use Rattle.plan.specs.Modes.{size, modeIn, liveMode}
 use Rattle.plan.specs.Usable.{meets}
 use Rattle.plan.specs.Reading.{groupsIn, wellShaped}
-use Rattle.plan.proofs.Named.{named-other, guard-inside-or-named, guard-valid, guard-at-most, moves-mem}
+use Rattle.plan.proofs.Named.{named-other, named-of-move, guard-inside-or-named, guard-valid, guard-at-most, moves-mem}
 use Rattle.plan.proofs.Modes.{member-below, member-of, is-member}
 use Rattle.plan.proofs.Modes.{modeIn-below, modeNumber-below, modeIn-modeNumber}
 use Rattle.plan.proofs.Words.{members-mean, live-means}
+use Rattle.plan.specs.Laws.{counted}
 use Rattle.command.specs.State.{modes, modeOf}
 use Rattle.command.specs.Goal.{Masks, anyMode, guardMasks, met, allowed}
+use Rattle.command.specs.Ancestors.{upstreamIn}
 use Rattle.command.specs.Attainable.{present, liveGroup}
 use Rattle.command.specs.Next.{holdsInside, holdsOutside}
-use Rattle.command.proofs.Shape.{Sound, groups-length, shape-first}
+use Rattle.command.proofs.Shape.{Sound, groups-length, shape-first, move-below}
+use Rattle.command.proofs.Upstream.{named-upstream}
 use Rattle.command.proofs.Guards.{full-byte, mask-inside, mask-outside, mask-free, mask-guard}
 use Rattle.plan.proofs.Named.{moves-below, moves-group}
 
@@ -189,12 +192,20 @@ module _ (m : Model) (valid : Valid m) (plan : List ℕ) (shaped : wellShaped m 
           unless-known (ap (λ x. eqb x k) (eqb-true _ _ e) ∙ f) (all-at _ h l)))
 
       -- a group that they leave unmet is one that the move names
-      pub unmet-named : (a : ℕ) → met (groupsIn m plan) (guardMasks m (groupsIn m plan) k (moveAt m v)) state a ≡ false
+      unmet-named : (a : ℕ) → met (groupsIn m plan) (guardMasks m (groupsIn m plan) k (moveAt m v)) state a ≡ false
           → List·Memᴰ a (namedOutside m (groupsIn m plan) k (v ∷ []))
       unmet-named a unmet =
           ⊎-elim (λ n. n)
           (λ n. absurd (true-false (met-allowed state sound needs a ∙ needs-free a _ n) unmet))
           (mem-or-not a (namedOutside m own k (v ∷ [])))
+
+      -- and if the move counts, that group is upstream of k
+      pub unmet-upstream : List·Memᴰ v (counted m plan k) → (a : ℕ)
+          → met (groupsIn m plan) (guardMasks m (groupsIn m plan) k (moveAt m v)) state a ≡ false
+          → upstreamIn m plan k a ≡ true
+      unmet-upstream counts a unmet =
+          named-upstream m valid plan shaped k a (named-of-move m own k counts (unmet-named a unmet))
+          (move-below m valid plan shaped k v member)
 
       -- a need that fails leaves a lower group unmet
       pub needs-fail : holdsOutside m plan state k (moveAt m v) ≡ false

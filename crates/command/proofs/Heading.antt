@@ -2,13 +2,13 @@
 -- Assumes nothing.
 use Prim.Native.Nat.{ℕ, zero, suc, _≤_, _<_}
 use mathlib.Core.Path.{_≡_, refl, ap, _∙_}
-use mathlib.Core.List.{List, [], _∷_, List·Memᴰ}
+use mathlib.Core.List.{List, List·Memᴰ}
 use mathlib.Core.Bool.{true, false}
 use native.Mathlib.Omega.{arith}
 use Rattle.common.proofs.Bools.{true-false}
 use Rattle.sheet.specs.Model.{Model, moveAt}
 use Rattle.sheet.specs.Valid.{Valid}
-use Rattle.plan.specs.Groups.{groupCount, movesOf, namedOutside}
+use Rattle.plan.specs.Groups.{groupCount, movesOf}
 use Rattle.plan.specs.Modes.{size}
 use Rattle.plan.specs.Usable.{leads, target}
 use Rattle.plan.specs.Reading.{entryAt}
@@ -23,7 +23,7 @@ use Rattle.command.proofs.Facts.{Sound}
 use Rattle.command.proofs.Safe.{safe-attains, safe-of-live}
 use Rattle.command.proofs.Following
 use Rattle.command.proofs.Following.{firstMove}
-use Rattle.plan.proofs.Named.{moves-below, moves-group, named-of-move}
+use Rattle.plan.proofs.Named.{moves-below, moves-group}
 use Rattle.plan.proofs.Counted.{usable-counts}
 use Rattle.plan.specs.Reading.{groupsIn}
 
@@ -101,26 +101,20 @@ module _ {m : Model} {plan : List ℕ} {Usable : ℕ → Type 0} {longest : ℕ 
       (Facts.leading-from m valid plan (tables .shaped) k _ (h .member) state sound (h .leading))
       (Facts.leading-inside m valid plan (tables .shaped) k _ (h .member) state sound (h .leading))
 
-  -- the groups that a move of group k names, and its needs taken as a goal
+  -- the needs of a move of group k, taken as a goal
   module _ (k v : ℕ) (member : List·Memᴰ v (movesOf m (groups m plan) k)) where
     abbrev needs : Masks
     needs = guardMasks m (groups m plan) k (moveAt m v)
 
-    abbrev Named : ℕ → Type 0
-    Named a = List·Memᴰ a (namedOutside m (groups m plan) k (v ∷ []))
-
     k-below : k < N
     k-below = Facts.move-below m valid plan (tables .shaped) k v member
 
-    -- a usable move counts: what it names is upstream of its group
+    -- a usable move counts: a group that its needs leave unmet is upstream of its own
     module _ (usable : Usable v) where
-      pub named-up : (a : ℕ) → Named a → upstreamIn m plan k a ≡ true
-      named-up a n =
-          Facts.named-upstream m valid plan (tables .shaped) k a
-          (named-of-move m (groupsIn m plan) k (usable-counts m plan k Usable member usable) n) k-below
-
       pub unmet-up : (a : ℕ) → met (groups m plan) needs state a ≡ false → upstreamIn m plan k a ≡ true
-      unmet-up a unmet = named-up a (Facts.unmet-named m valid plan (tables .shaped) k v member state sound a unmet)
+      unmet-up =
+          Facts.unmet-upstream m valid plan (tables .shaped) k v member state sound
+          (usable-counts m plan k Usable member usable)
 
       unmet-up-up : (a b : ℕ) → met (groups m plan) needs state a ≡ false → upstreamIn m plan a b ≡ true
           → upstreamIn m plan k b ≡ true

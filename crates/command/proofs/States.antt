@@ -1,6 +1,7 @@
 -- The bytes of a state: where a machine's mode and tag stand; and a state with one machine in another mode: this machine has
 -- it, every other machine is as before, and so is every tag.
--- The laws up to `tags-withMode` open the readers and the writer of a state; nothing else does. Assumes nothing.
+-- The laws up to `tags-withMode` open the readers and the writer of a state; else only the proof of `put_mode` does, and
+-- `Tagless.antt`, about states without tags. Assumes nothing.
 use Prim.Native.Nat.{ℕ, zero, suc, _+_, _*_, _<_}
 use mathlib.Core.Path.{_≡_, refl, sym, ap, _∙_}
 use mathlib.Core.List.{List, [], _∷_}
@@ -10,7 +11,7 @@ use lib.Seq.{getD-set-same, getD-set-other, getD-drop}
 use Rattle.sheet.specs.Record.{byte}
 use Rattle.command.specs.State.{everySecond, modes, tags, modeOf, tagOf, withMode}
 
-twice : (i : ℕ) → 2 * suc i ≡ suc (suc (2 * i))
+pub twice : (i : ℕ) → 2 * suc i ≡ suc (suc (2 * i))
 twice i = omega arith
 
 -- every second byte
@@ -52,13 +53,13 @@ second-kept (a ∷ b ∷ rest) (suc i) x =
     (second-cons b (set rest (2 * i) x) ∙ ap (λ r. b ∷ r) (second-kept rest i x) ∙ sym (second-cons b rest))
 
 -- where a machine's mode and tag stand
-pub mode-byte : (state : List ℕ) (i : ℕ) → modeOf state i ≡ byte state (2 * i)
+pub mode-place : (state : List ℕ) (i : ℕ) → modeOf state i ≡ byte state (2 * i)
 unfolding modes
-mode-byte state i = second-at state i
+mode-place state i = second-at state i
 
-pub tag-byte : (state : List ℕ) (i : ℕ) → tagOf state i ≡ byte state (2 * i + 1)
+pub tag-place : (state : List ℕ) (i : ℕ) → tagOf state i ≡ byte state (2 * i + 1)
 unfolding tags
-tag-byte state i =
+tag-place state i =
     let e : 2 * i + 1 ≡ 1 + 2 * i = omega arith in
     second-at (drop 1 state) i ∙ rw e (getD-drop 1 state (2 * i) 0)
 

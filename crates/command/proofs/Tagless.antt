@@ -27,7 +27,7 @@ use Rattle.command.specs.Tagless.{plainMet, plainPresent, plainLive, pla
 use Rattle.command.specs.Tagless.{plainNearest, plainTarget, plainInside, plainOutside, plainUnfit, plainPrepare}
 use Rattle.command.specs.Tagless.{plainFollow, plainFulfil, plainRefusals, plainNext, plainApply, untaggedReply}
 use Rattle.command.specs.Tagless.{TaglessSame}
-use Rattle.command.proofs.States.{tag-byte}
+use Rattle.command.proofs.States.{twice, tag-place}
 
 twice-same : (a b : ℕ) → eqb (2 * a) (2 * b) ≡ eqb a b
 twice-same a b =
@@ -50,7 +50,7 @@ second-tagless (x ∷ ms) (suc i) =
     let e : 2 * suc i + 1 ≡ suc (suc (2 * i + 1)) = omega arith in rw e (second-tagless ms i)
 
 tag-tagless : (ms : List ℕ) (i : ℕ) → tagOf (tagless ms) i ≡ 0
-tag-tagless ms i = tag-byte (tagless ms) i ∙ second-tagless ms i
+tag-tagless ms i = tag-place (tagless ms) i ∙ second-tagless ms i
 
 length-tagless : (ms : List ℕ) → length (tagless ms) ≡ 2 * length ms
 unfolding tagless flatMap
@@ -61,8 +61,7 @@ set-tagless : (ms : List ℕ) (i x : ℕ) → withMode (tagless ms) i x ≡ tagl
 unfolding withMode tagless flatMap
 set-tagless [] i x = refl
 set-tagless (y ∷ ms) zero x = refl
-set-tagless (y ∷ ms) (suc i) x =
-    let e : 2 * suc i ≡ suc (suc (2 * i)) = omega arith in rw e (ap (λ r. y ∷ 0 ∷ r) (set-tagless ms i x))
+set-tagless (y ∷ ms) (suc i) x = rw twice (ap (λ r. y ∷ 0 ∷ r) (set-tagless ms i x))
 
 -- What sees no tags reads the modes alone
 

@@ -15,12 +15,12 @@ use Rattle.command.specs.State.{tagOf}
 use Rattle.command.specs.Next.{command, nextReply}
 use Rattle.command.specs.Method.{Pick, noneUnmet, unfitEntry, entryMove, pickReply, MethodRight, PicksFor}
 use Rattle.command.specs.Tags.{LaidOut, NeverTagged}
-use Rattle.command.proofs.States.{mode-byte, tag-byte}
+use Rattle.command.proofs.States.{mode-place, tag-place}
 use Rattle.command.proofs.Asking.{done-not-command, misshapen-reply, shaped-reply}
 use Rattle.command.proofs.Picked.{method-followed}
 
 pub laid-out : LaidOut
-laid-out state i = (mode-byte state i, tag-byte state i)
+laid-out state i = (mode-place state i, tag-place state i)
 
 -- what is picked is replied, and has no tag
 picked-free : {sheet plan state goal : List ℕ} (d : Parsed) (i c : ℕ) (r : MethodRight (d .model) sheet plan state goal)
@@ -36,7 +36,7 @@ pub never-tagged : NeverTagged
 unfolding nextReply
 never-tagged sheet plan state goal i c e =
     let (d, parses, given-by) = andThen-given (parse sheet) _ e in
-    rw (← tag-byte state i)
+    rw (← tag-place state i)
     (by-cases (wellShaped (d .model) plan)
     (λ shaped.
     let covered = given-clear _ _ (sym (shaped-reply sheet plan state goal d parses shaped) ∙ e) in

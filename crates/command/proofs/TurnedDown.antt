@@ -32,7 +32,7 @@ use Rattle.command.specs.Next.{fulfil, goalRefusals, nextReply}
 use Rattle.command.specs.Apply.{applyReply}
 use Rattle.command.specs.TurnedDown.{Present, Sensible, StateFits, StatePasses, GoalPasses, FirstWrong}
 use Rattle.command.specs.TurnedDown.{TurnedDown, SheetBefore}
-use Rattle.command.proofs.States.{mode-byte, tag-byte}
+use Rattle.command.proofs.States.{mode-place, tag-place}
 use Rattle.command.proofs.Shape.{sound-state, state-sound}
 use Rattle.command.proofs.Applying.{apply-reply}
 use Rattle.command.proofs.Asking.{misshapen-reply, shaped-reply}
@@ -44,12 +44,12 @@ module _ (m : Model) where
   present-exactly state i = (
     λ f.
         let absent = leb (modeCount m i) (modeOf state i) in (
-          rw (mode-byte state i) at (leb-false (modeCount m i) (modeOf state i) (or-false-left absent _ f)),
-          rw (tag-byte state i) at (leb-false 2 (tagOf state i) (or-false-right absent _ f)),
+          rw (mode-place state i) at (leb-false (modeCount m i) (modeOf state i) (or-false-left absent _ f)),
+          rw (tag-place state i) at (leb-false 2 (tagOf state i) (or-false-right absent _ f)),
         ),
     λ p. or-false-intro
-        (lt-leb (modeCount m i) (modeOf state i) (rw (mode-byte state i) (p .0)))
-        (lt-leb 2 (tagOf state i) (rw (tag-byte state i) (p .1))),
+        (lt-leb (modeCount m i) (modeOf state i) (rw (mode-place state i) (p .0)))
+        (lt-leb 2 (tagOf state i) (rw (tag-place state i) (p .1))),
   )
 
   sensible-exactly : (goal : List ℕ) (i : ℕ) → (badByte m goal i ≡ false) ↔ Sensible m goal i
@@ -68,12 +68,12 @@ state-passes m state = (
   λ h.
       let s = sound-state m state h in (
         s .long,
-        λ i l. (rw (← mode-byte state i) (s .fits i l), rw (← tag-byte state i) (s .tags-fit i l)),
+        λ i l. (rw (← mode-place state i) (s .fits i l), rw (← tag-place state i) (s .tags-fit i l)),
       ),
   λ s. each-clear _ (state-sound m state (record {
     long = s .0;
-    fits = λ i l. rw (mode-byte state i) (s .1 i l .0);
-    tags-fit = λ i l. rw (tag-byte state i) (s .1 i l .1);
+    fits = λ i l. rw (mode-place state i) (s .1 i l .0);
+    tags-fit = λ i l. rw (tag-place state i) (s .1 i l .1);
   })),
 )
 

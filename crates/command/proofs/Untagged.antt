@@ -11,7 +11,7 @@ use Rattle.sheet.specs.Model.{Model, moveCount, moveAt}
 use Rattle.sheet.specs.Valid.{Valid}
 use Rattle.plan.specs.Groups.{groupOf, groupCount}
 use Rattle.plan.specs.Reading.{groupsIn, wellShaped}
-use Rattle.plan.proofs.Named.{moves-in, named-of-move}
+use Rattle.plan.proofs.Named.{moves-in}
 use Rattle.plan.proofs.Counted.{usable-counts}
 use Rattle.plan.proofs.Modes.{is-member}
 use Rattle.command.specs.State.{tagOf}
@@ -20,9 +20,9 @@ use Rattle.command.specs.Ancestors.{upstreamIn}
 use Rattle.command.specs.Attainable.{attainFaults}
 use Rattle.command.specs.Uncovered.{Concerns}
 use Rattle.command.specs.Method.{entryMove, Picks, sends, prepares}
-use Rattle.command.proofs.Shape.{Sound, groups-length, group-below, move-below}
-use Rattle.command.proofs.Goals.{unmet-named}
-use Rattle.command.proofs.Upstream.{named-upstream, upstream-trans}
+use Rattle.command.proofs.Shape.{Sound, groups-length, group-below}
+use Rattle.command.proofs.Goals.{unmet-upstream}
+use Rattle.command.proofs.Upstream.{upstream-trans}
 use Rattle.command.proofs.Acts.{live-untagged}
 use Rattle.command.proofs.Causes.{all-live, clear-group}
 
@@ -44,13 +44,9 @@ module _ (m : Model) (valid : Valid m) (plan : List ℕ) (shaped : wellShaped m 
   needs-up : (k v : ℕ) → v < moveCount m → home v ≡ k → (a : ℕ)
       → met (groupsIn m plan) (guardMasks m (groupsIn m plan) k (moveAt m v)) state a ≡ false
       → upstreamIn m plan k a ≡ true
-  needs-up k v listed own a unmet =
-      let own-groups = groupsIn m plan in
-      let member = moves-in m own-groups listed own in
-      let counts = usable-counts m plan k (λ w. Unit {0}) member tt in
-      named-upstream m valid plan shaped k a
-      (named-of-move m own-groups k counts (unmet-named m valid plan shaped k v member state sound a unmet))
-      (move-below m valid plan shaped k v member)
+  needs-up k v listed own =
+      let member = moves-in m (groupsIn m plan) listed own in
+      unmet-upstream m valid plan shaped k v member state sound (usable-counts m plan k (λ w. Unit {0}) member tt)
 
   pub picked-way : {masks : Masks} {n v : ℕ} → Picks m plan state masks n (entryMove v) → Way masks n v
   picked-way (sends k q h t f o) =

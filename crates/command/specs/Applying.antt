@@ -28,14 +28,13 @@ pub record ApplyRight (m : Model) (sheet state : List ℕ) (machine command : �
       → (a .move ≡ v) × (modeOf (a .state) machine ≡ moveAt m v .to)
   pub others : (i : ℕ) (a : Applied) → applyReply sheet state machine command ≡ given a → (i ≡ machine → ⊥)
       → modeOf (a .state) i ≡ modeOf state i
-  -- no tag is written
-  pub tags : (i : ℕ) (a : Applied) → applyReply sheet state machine command ≡ given a → tagOf (a .state) i ≡ tagOf state i
-  -- a tagged machine does not change
-  pub tagged : (tagOf state machine ≡ 0 → ⊥)
-      → applyReply sheet state machine command ≡ given (record { move = 255; state = state })
   -- if none does, nothing changes
   pub idle : ((v : ℕ) → Answers m state machine command v → ⊥)
       → applyReply sheet state machine command ≡ given (record { move = 255; state = state })
+  -- a tagged machine does not change, and no tag does
+  pub tagged : (tagOf state machine ≡ 0 → ⊥)
+      → applyReply sheet state machine command ≡ given (record { move = 255; state = state })
+  pub tags : (i : ℕ) (a : Applied) → applyReply sheet state machine command ≡ given a → tagOf (a .state) i ≡ tagOf state i
   -- what is told of it
   pub told : (e : Effect) → effectReply (applyReply sheet state machine command) ≡ given e
       → EffectRight m state (stateAfter (applyReply sheet state machine command) state) machine command e

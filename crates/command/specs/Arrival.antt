@@ -41,7 +41,7 @@ module _ (lent : Lent) (m : Model) where
     pub finds-needs : (i c : ℕ) → askReply lent (s .state) ≡ given (command i c)
         → (v : ℕ) × Answers m (s .state) i c v
     -- its machine has no tag
-    pub untagged : (i c : ℕ) → askReply lent (s .state) ≡ given (command i c) → tagOf (s .state) i ≡ 0
+    pub no-tag : (i c : ℕ) → askReply lent (s .state) ≡ given (command i c) → tagOf (s .state) i ≡ 0
     -- and there is room left under the bound
     pub within-bound : (i c : ℕ) → askReply lent (s .state) ≡ given (command i c) → s .applied < boundIn m (lent .plan)
 

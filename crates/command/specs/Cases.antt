@@ -210,7 +210,8 @@ cases =
     -- applying: not to a tagged machine; its tag does not hinder another, and no tag changes
     ∷ applies stove (0 ∷ 1 ∷ 0 ∷ 0 ∷ 0 ∷ 0 ∷ []) 0 1 (given (record { move = 255; state = 0 ∷ 1 ∷ 0 ∷ 0 ∷ 0 ∷ 0 ∷ [] }))
     ∷ applies stove (1 ∷ 1 ∷ 0 ∷ 0 ∷ 0 ∷ 1 ∷ []) 1 1 (given (record { move = 2; state = 1 ∷ 1 ∷ 1 ∷ 0 ∷ 0 ∷ 1 ∷ [] }))
-    -- arrival is not empty: the stove meets its premises, and its run ends as wished
+    -- arrival is not empty: the stove meets its premises, and its run ends as wished, also beside tags
+    ∷ runs stove (1 ∷ 0 ∷ 0 ∷ 1 ∷ 0 ∷ 1 ∷ []) (1 ∷ []) 107 (ask ∷ apply ∷ ask ∷ []) (0 ∷ 0 ∷ 0 ∷ 1 ∷ 0 ∷ 1 ∷ []) 1
     ∷ runs stove (tagless (0 ∷ 0 ∷ 0 ∷ [])) (1 ∷ 2 ∷ 2 ∷ []) 107 stoveCalls (tagless (0 ∷ 1 ∷ 1 ∷ [])) 4
     ∷ []
 
@@ -243,4 +244,5 @@ cases-hold =
     ⊗ refl ⊗ refl ⊗ refl ⊗ refl ⊗ refl ⊗ refl ⊗ refl ⊗ refl ⊗ refl ⊗ refl ⊗ refl ⊗ refl ⊗ refl ⊗ refl ⊗ refl ⊗ refl
     ⊗ refl ⊗ refl ⊗ refl ⊗ refl ⊗ refl ⊗ refl ⊗ refl ⊗ refl ⊗ refl ⊗ refl
     ⊗ refl ⊗ refl ⊗ refl ⊗ refl ⊗ refl ⊗ refl ⊗ refl ⊗ refl ⊗ refl ⊗ refl ⊗ refl
+    ⊗ (refl, refl, refl, tt ⊗ tt ⊗ tt ⊗ tt, refl)
     ⊗ (refl, refl, refl, tt ⊗ tt ⊗ tt ⊗ tt ⊗ tt ⊗ tt ⊗ tt ⊗ tt ⊗ tt ⊗ tt ⊗ tt ⊗ tt ⊗ tt ⊗ tt ⊗ tt, refl) ⊗ tt

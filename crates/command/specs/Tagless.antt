@@ -1,5 +1,5 @@
--- A state with no tags gets the replies that a state of modes alone gets: the calls without tags, said here for this theorem
--- alone, and the theorem.
+-- A state with no tags gets the replies that a state of modes alone gets: the calls without tags, said once more for this
+-- theorem, and the theorem.
 use Prim.Native.Nat.{ℕ, zero, suc}
 use mathlib.Core.Path.{_≡_}
 use mathlib.Core.List.{List, [], _∷_, _++_, flatMap}

@@ -16,7 +16,7 @@ use Rattle.command.specs.Next.{nextReply}
 use Rattle.command.specs.Apply.{applyReply}
 
 module _ (m : Model) where
-  -- machine i has the mode that the state says, and is tagged or not
+  -- machine i has the mode that the state says, and its tag is 0 or 1
   abbrev pub Present : List ℕ → ℕ → Type 0
   Present state i = (byte state (2 * i) < modeCount m i) × (byte state (2 * i + 1) < 2)
 

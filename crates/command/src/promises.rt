@@ -40,7 +40,8 @@ pub fn faulty_bytes_are_turned_down()
     ensures { λ _. ⌜ TurnedDown ⌝ }
 {}
 
-// The group modes of a state are its machines' modes; a group is live, or met, if each of its machines is.
+// The group modes of a state are its machines' modes; a group is live if each of its machines is in a live mode and has no
+// tag, and met if each is in a mode that is allowed.
 pub fn states_are_right()
     ensures { λ _. ⌜ StatesRight ⌝ }
 {}

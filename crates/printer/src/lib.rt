@@ -113,7 +113,7 @@ fn product(a: u64, b: u64) -> u64 {
     a * b
 }
 
-// The product of the mode counts, or 0 where it is 2^64 or more.
+// How many states there are, tags aside: the product of the mode counts, or 0 where it is 2^64 or more.
 fn states(sheet: Sheet) -> u64 {
     let count = sheet.machines;
     let mut total: u64 = 1;

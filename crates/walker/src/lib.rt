@@ -74,8 +74,8 @@ pub fn walk() {
     let mut file = [0u8; 73728];
     let mut state = [0u8; 128];
     let mut goal = [0u8; 64];
-    let n = load(b"sheet.bin", &mut file);
-    let machines = load(b"state.bin", &mut state);
-    let wishes = load(b"wish.bin", &mut goal);
-    print_walk(&file[..n], &mut state[..machines], &goal[..wishes]);
+    let file_n = load(b"sheet.bin", &mut file);
+    let state_n = load(b"state.bin", &mut state);
+    let goal_n = load(b"wish.bin", &mut goal);
+    print_walk(&file[..file_n], &mut state[..state_n], &goal[..goal_n]);
 }

@@ -2,7 +2,7 @@ use Prim.Native.Nat.{_*_}
 use mathlib.Core.Path.{sym, ap, _∙_}
 use borrow.Author.Needs.{needs}
 use Rattle.sheet.specs.Record.{byte}
-use Rattle.command.proofs.States.{mode-byte}
+use Rattle.command.proofs.States.{mode-place}
 use Rattle.command.proofs.state.mode_of.Statement.{statement}
 use Rattle.command.proofs.state.mode_of.Tie as tie
 
@@ -18,7 +18,7 @@ byte-at-requires c κs = search needs
 returns : tie.Need-returns
 returns c =
     let state = c .before .before .before .args .state .now in
-    c .byte-at .ensures ∙ ap (λ i. byte state (2 * i)) (c .before .wide .ensures .0) ∙ sym (mode-byte state _)
+    c .byte-at .ensures ∙ ap (λ i. byte state (2 * i)) (c .before .wide .ensures .0) ∙ sym (mode-place state _)
 
 pub mode-of-spec : {M : Type 1} → statement M
 mode-of-spec = tie.close (tie.spec wide-requires mul-byte-at byte-at-requires returns)

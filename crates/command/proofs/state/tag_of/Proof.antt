@@ -2,7 +2,7 @@ use Prim.Native.Nat.{_+_, _*_}
 use mathlib.Core.Path.{sym, ap, _∙_}
 use borrow.Author.Needs.{needs}
 use Rattle.sheet.specs.Record.{byte}
-use Rattle.command.proofs.States.{tag-byte}
+use Rattle.command.proofs.States.{tag-place}
 use Rattle.command.proofs.state.tag_of.Statement.{statement}
 use Rattle.command.proofs.state.tag_of.Tie as tie
 
@@ -21,7 +21,7 @@ byte-at-requires c κs = search needs
 returns : tie.Need-returns
 returns c =
     let state = c .before .before .before .args .state .now in
-    c .byte-at .ensures ∙ ap (λ i. byte state (2 * i + 1)) (c .before .wide .ensures .0) ∙ sym (tag-byte state _)
+    c .byte-at .ensures ∙ ap (λ i. byte state (2 * i + 1)) (c .before .wide .ensures .0) ∙ sym (tag-place state _)
 
 pub tag-of-spec : {M : Type 1} → statement M
 tag-of-spec = tie.close (tie.spec wide-requires mul-byte-at add-byte-at byte-at-requires returns)
