@@ -292,27 +292,20 @@ static uint8_t machine_of(uint32_t value)
     return (uint8_t)(value / 256);
 }
 
-/* Hangs a tag on a machine. */
-static void hang(struct kitchen *k, uint8_t machine)
+/* Hangs a tag on a machine, or lifts it. */
+static void put_tag(struct kitchen *k, uint8_t machine, bool hangs)
 {
-    k->state.at[duty_tag_at(machine)] = 1;
-    printf("machine %u: tag hung\n", machine);
-}
-
-/* Lifts the tag of a machine. */
-static void lift(struct kitchen *k, uint8_t machine)
-{
-    k->state.at[duty_tag_at(machine)] = 0;
-    printf("machine %u: tag lifted\n", machine);
+    k->state.at[duty_tag_at(machine)] = hangs;
+    printf("machine %u: tag %s\n", machine, hangs ? "hung" : "lifted");
 }
 
 /* Someone cleans the machine that is to move: while its tag hangs, the wish is
  * refused. A panel on the wall would wait here until the tag is lifted. */
 static void clean(struct kitchen *k, uint8_t machine)
 {
-    hang(k, machine);
+    put_tag(k, machine, true);
     refused(ask(k));
-    lift(k, machine);
+    put_tag(k, machine, false);
 }
 
 /* Makes a command happen and says which move it was. A panel on the wall would

@@ -17,12 +17,13 @@ use Rattle.common.proofs.Members.{upTo-mem}
 use Rattle.common.proofs.Search.{find-upTo-is, find-upTo-none}
 use Rattle.sheet.specs.declared.index.Sheet.{Sheet}
 use Rattle.sheet.specs.Record.{byte, bodyAt}
-use Rattle.sheet.specs.Model.{Guard, Model, moveOf, moveAt}
+use Rattle.sheet.specs.Model.{Guard, Model, moveOf}
 use Rattle.sheet.specs.Index.{Indexes}
 use Rattle.sheet.proofs.Indexed.{indexes-moves, indexes-body}
 use Rattle.plan.proofs.MoveTurns.{turn-present, turn-move}
 use Rattle.command.specs.State.{modeOf, tagOf}
 use Rattle.command.specs.Apply.{acts, actingMove}
+use Rattle.command.proofs.Acts.{acts-answers}
 
 -- a need holds in a state
 abbrev pub holds : List ℕ → Guard → Bool
@@ -107,20 +108,14 @@ module _ (state body : List ℕ) (machine mode command : ℕ) where
 pub record Unanswered (m : Model) (state : List ℕ) (machine command v : ℕ) : Type 0 where
   pub none : (j : ℕ) → j < v → acts m state machine command j ≡ false
 
--- all that a move must be to answer, but for the tag
-abbrev answers-of : Model → List ℕ → ℕ → ℕ → ℕ → Bool
-answers-of m state machine command v =
-    eqb (moveAt m v .machine) machine && eqb (moveAt m v .from) (modeOf state machine)
-    && eqb (moveAt m v .command) command && all (holds state) (moveAt m v .guards)
-
 -- a tagged machine obeys no command
 pub unanswered-tagged : (m : Model) (state : List ℕ) (machine command : ℕ) {tag : ℕ} → tag ≡ tagOf state machine
     → (tag ≡ 0 → ⊥) → 255 ≡ actingMove m state machine command
-unfolding actingMove acts
+unfolding actingMove
 unanswered-tagged m state machine command e n =
     sym
     (find-upTo-none (acts m state machine command) 255 (λ j l.
-    and-false-right (answers-of m state machine command j) (ne-eqb (tagOf state machine) 0 (λ z. n (e ∙ z)))))
+    false-of-not-true (λ t. n (e ∙ acts-answers m state machine command j l t .no-tag))))
 
 pub unanswered-none : (m : Model) (state : List ℕ) (machine command : ℕ) → Unanswered m state machine command 0
 unanswered-none m state machine command = record { none = below-none (λ j. acts m state machine command j ≡ false) }
