@@ -32,8 +32,8 @@ extern "C" {
  * command accepts. */
 #define DUTY_FOREIGN_PLAN_MAX 131184
 
-/* The scratch of planning. */
-#define DUTY_SCRATCH 4096
+/* The least scratch of planning; a longer one is taken as well. */
+#define DUTY_SCRATCH 512
 
 /* The longest state that is accepted, two bytes for each machine: its mode, then
  * its tag. The tag is 1 while nobody may move the machine, else 0. */
@@ -72,7 +72,7 @@ uint64_t duty_sheet(const uint8_t *sheet, size_t n);
 uint64_t duty_plan_length(const uint8_t *sheet, size_t n);
 
 /* Writes a sheet's plan (refusals 1 to 12): plan_n must be the plan's length,
- * scratch_n DUTY_SCRATCH, and the scratch is left all zero. Value: 0. */
+ * scratch_n DUTY_SCRATCH or more, and all of the scratch is left zero. Value: 0. */
 uint64_t duty_plan(const uint8_t *sheet, size_t n, uint8_t *plan, size_t plan_n,
                    uint8_t *scratch, size_t scratch_n);
 

@@ -6,7 +6,7 @@ use crate::command::Command;
 use crate::groups::{Groups, MAX_GROUP_MODES};
 use crate::join::in_one_slice;
 use crate::pictures;
-use crate::plan::{BOUND, GROUP_NUMBERS, NO_ROUTE, SCRATCH, TABLE};
+use crate::plan::{BOUND, GROUP_NUMBERS, MIN_SCRATCH, NO_ROUTE, TABLE};
 use crate::samples::Builder;
 use crate::shape::Plan;
 use crate::sheet::{Sheet, MAX_MACHINES};
@@ -518,16 +518,24 @@ pub fn lent(random: &mut Random) -> Lent {
     lent
 }
 
+/// A scratch that is mostly just long enough, else longer or too short.
+fn scratch(random: &mut Random) -> Vec<u8> {
+    let length = match random.below(40) {
+        0 => random.below(MIN_SCRATCH),
+        1 => MIN_SCRATCH - 1,
+        2 => MIN_SCRATCH + 1,
+        3 => 70_000,
+        4..=9 => MIN_SCRATCH + random.below(8 * MIN_SCRATCH),
+        _ => MIN_SCRATCH,
+    };
+    vec![random.byte(); length]
+}
+
 /// Lends all that belongs to a sheet.
 fn lend(random: &mut Random, sheet: &Sheet, lent: &mut Lent) {
     let plan = plan(random, lent.sheet.get(), sheet);
-    let scratch = if random.once_in(40) {
-        SCRATCH - 1
-    } else {
-        SCRATCH
-    };
     lent.plan = Slot::new(&plan);
-    lent.scratch = Slot::new(&vec![random.byte(); scratch]);
+    lent.scratch = Slot::new(&scratch(random));
     lent.state = Slot::new(&state(random, sheet));
     lent.goal = Slot::new(&goal(random, sheet));
     lent.command = command(random, sheet);

@@ -1,7 +1,7 @@
 //! The walk: plans a sheet, then obeys its own commands until the goal is met.
 
 use crate::command::{Effect, Next};
-use crate::plan::SCRATCH;
+use crate::plan::MIN_SCRATCH;
 use crate::version::Version;
 use crate::{Refusal, Reply};
 use std::fmt::Write;
@@ -19,7 +19,7 @@ pub fn walk<V: Version>(sheet: &[u8], state: &[u8], goal: &[u8]) -> String {
 /// A sheet's own plan in a buffer of its own.
 pub fn own_plan<V: Version>(sheet: &[u8]) -> Reply<Vec<u8>> {
     let mut buffer = vec![0; V::plan_length(sheet)? as usize];
-    V::plan(sheet, &mut buffer, &mut [0; SCRATCH])?;
+    V::plan(sheet, &mut buffer, &mut [0; MIN_SCRATCH])?;
     Ok(buffer)
 }
 

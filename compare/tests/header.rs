@@ -9,7 +9,7 @@ use duty_compare::both::{
 use duty_compare::command::{Effect, Next};
 use duty_compare::join::in_one_slice;
 use duty_compare::pictures::Drawing;
-use duty_compare::plan::SCRATCH;
+use duty_compare::plan::MIN_SCRATCH;
 use duty_compare::refuse;
 use duty_compare::samples::{fullest, longest_plan, Builder};
 use duty_compare::sheet::MAX_MOVES;
@@ -239,7 +239,7 @@ fn the_largest_sizes_are_the_largest() {
     assert!(check_sheet(&sheet).is_ok());
     let longest = constant("DUTY_PLAN_MAX");
     assert_eq!(plan_length(&longest_plan()), Ok(longest));
-    assert_eq!(SCRATCH, constant("DUTY_SCRATCH"));
+    assert_eq!(MIN_SCRATCH, constant("DUTY_SCRATCH"));
 }
 
 #[test]

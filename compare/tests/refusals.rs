@@ -7,7 +7,7 @@ use duty_compare::both::{
 use duty_compare::command::Command;
 use duty_compare::faults::faulty_sheets;
 use duty_compare::join::in_one_slice;
-use duty_compare::plan::SCRATCH;
+use duty_compare::plan::MIN_SCRATCH;
 use duty_compare::refuse;
 use duty_compare::samples::{blocks, dials, filter, stove, stove_records, Builder};
 use duty_compare::state::untagged;
@@ -94,19 +94,18 @@ fn plan_refused(sheet: &[u8], length: usize, scratch: usize, number: u32) {
 #[test]
 fn refusal_11_comes_before_12() {
     let length = plan_length(&dials(6)).expect("a length");
-    plan_refused(&dials(6), length, SCRATCH, 11);
+    plan_refused(&dials(6), length, MIN_SCRATCH, 11);
     plan_refused(&dials(6), 0, 0, 11);
 }
 
 #[test]
 fn refusal_12_for_a_wrong_buffer_or_scratch() {
     for (length, scratch) in [
-        (0, SCRATCH),
-        (106, SCRATCH),
-        (108, SCRATCH),
+        (0, MIN_SCRATCH),
+        (106, MIN_SCRATCH),
+        (108, MIN_SCRATCH),
         (107, 0),
-        (107, SCRATCH - 1),
-        (107, SCRATCH + 1),
+        (107, MIN_SCRATCH - 1),
     ] {
         plan_refused(&stove(), length, scratch, 12);
     }

@@ -6,6 +6,7 @@ use duty_compare::calls::{Call, Lent, Side, Slot};
 use duty_compare::command::{Command, Effect, Next};
 use duty_compare::library::Library;
 use duty_compare::pictures::{own_text, shown, Drawing};
+use duty_compare::plan::MIN_SCRATCH;
 use duty_compare::state::untagged;
 use duty_compare::version::{Rust, Version};
 use duty_compare::walk::walk;
@@ -23,10 +24,8 @@ struct Recording {
     setting: &'static str,
     folder: &'static str,
     file: &'static str,
-    /// Whether the replies of applying have the move.
-    moves: bool,
-    /// Whether the states have tags.
-    tags: bool,
+    /// The last request of document 02 whose replies it has, 0 for none.
+    request: u32,
 }
 
 /// The calls of document 01.
@@ -34,17 +33,15 @@ const FIRST: Recording = Recording {
     setting: "DUTY_VECTORS",
     folder: "vectors",
     file: "calls.txt",
-    moves: false,
-    tags: false,
+    request: 0,
 };
 
 /// All calls, as the requests of document 02 up to this one leave them.
 const LATEST: Recording = Recording {
     setting: "DUTY_TICKET_VECTORS",
     folder: "ticket-vectors",
-    file: "L5.txt",
-    moves: true,
-    tags: true,
+    file: "L6.txt",
+    request: 6,
 };
 
 impl Recording {
@@ -76,11 +73,36 @@ impl Recording {
         Some(read.unwrap_or_else(|error| panic!("{}: {error}", path.display())))
     }
 
+    /// Whether the replies of applying have the move.
+    fn moves(&self) -> bool {
+        self.request >= 2
+    }
+
+    /// Whether the states have tags.
+    fn tags(&self) -> bool {
+        self.request >= 5
+    }
+
+    /// Whether any scratch from 512 bytes up is taken, or 4,096 bytes alone.
+    fn any_scratch(&self) -> bool {
+        self.request >= 6
+    }
+
+    /// A recorded length of the scratch. One that was wrong because it was not
+    /// 4,096 is read as one that is too short.
+    fn scratch(&self, recorded: usize) -> usize {
+        if self.any_scratch() || recorded == 4096 {
+            recorded
+        } else {
+            recorded.min(MIN_SCRATCH - 1)
+        }
+    }
+
     /// A recorded state. One without tags is read as tagless, with a zero behind
     /// each byte: n bytes become 2n, so a wrong length stays wrong and a right one
     /// right, and a wrong mode stays that of the same machine.
     fn state(&self, recorded: &[u8]) -> Vec<u8> {
-        if self.tags {
+        if self.tags() {
             recorded.to_vec()
         } else {
             untagged(recorded)
@@ -92,7 +114,7 @@ impl Recording {
     fn told(&self, call: &str, reply: Reply<u32>) -> Reply<u32> {
         let changed = |value| (Effect::of_value(value) != Effect::Nothing) as u32;
         match call {
-            "apply" if !self.moves => reply.map(changed),
+            "apply" if !self.moves() => reply.map(changed),
             _ => reply,
         }
     }
@@ -159,7 +181,7 @@ impl<'a> Blobs<'a> {
             ["len", _] | ["len", _, "0"] => "plan_length",
             ["plan", _, length, scratch] | ["plan", _, length, scratch, "0"] => {
                 lent.plan = Slot::new(&vec![0x5A; number(length)]);
-                lent.scratch = Slot::new(&vec![0xC3; number(scratch)]);
+                lent.scratch = Slot::new(&vec![0xC3; self.recording.scratch(number(scratch))]);
                 "plan"
             }
             ["next", _, plan, state, goal] | ["next", _, plan, state, goal, "-", "0", "0"] => {
@@ -271,9 +293,8 @@ fn calls_agree(recording: Recording, version: &str, side: fn(&Call) -> Side) {
         assert_eq!(recording.told(name, reply), expected, "{call}");
         assert!(black_box(lent) == left, "{call}: other bytes left");
     }
-    let told = if recording.moves { "with" } else { "without" };
     say(format!(
-        "{} recorded calls of {} ({told} moves and tags) agree with {version}",
+        "{} recorded calls of {} agree with {version}",
         calls.len(),
         recording.file
     ));

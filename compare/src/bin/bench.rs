@@ -9,7 +9,7 @@ use duty_compare::command::Command;
 use duty_compare::graph::MAX_READ;
 use duty_compare::join::{in_one_slice, MAX_GOALS};
 use duty_compare::pictures::{own_text, Drawing};
-use duty_compare::plan::SCRATCH;
+use duty_compare::plan::MIN_SCRATCH;
 use duty_compare::random::{self, Random};
 use duty_compare::samples::{blocks, chain, dials, fullest, stove};
 use duty_compare::sheet::{Sheet, MAX_MACHINES};
@@ -155,7 +155,7 @@ fn prepared(bytes: &[u8]) -> Lent {
     let text = own_text::<Rust>(bytes).expect("a text");
     Lent {
         plan: Slot::new(&own_plan::<Rust>(bytes).unwrap_or(vec![0; length as usize])),
-        scratch: Slot::new(&[0; SCRATCH]),
+        scratch: Slot::new(&[0; MIN_SCRATCH]),
         state: Slot::new(&untagged(&vec![0; sheet.machines()])),
         goal: Slot::new(&goal),
         command: Command {

@@ -53,11 +53,11 @@ length-most sheet {n} e =
 
 -- a buffer that is long enough is used as far as the plan needs
 enough : (sheet : List ℕ) (buffer : ℕ) (r : Reply ℕ) → ((n : ℕ) → r ≡ given n → n ≤ buffer)
-    → andThen r (λ n. planReply sheet n 4096) ≡ andThen r (λ n. planReply sheet (min n buffer) 4096)
+    → andThen r (λ n. planReply sheet n 512) ≡ andThen r (λ n. planReply sheet (min n buffer) 512)
 unfolding andThen
 enough sheet buffer (given n) h =
     let l = h n refl in
-    ap (λ k. planReply sheet k 4096) (omega arith)
+    ap (λ k. planReply sheet k 512) (omega arith)
 enough sheet buffer (refused number place) h = refl
 
 pub turns-right : (sheet state goal : List ℕ) → TurnsRight sheet state goal

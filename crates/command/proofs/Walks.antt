@@ -150,5 +150,5 @@ walks-right sheet state goal =
     record {
       unmeasured = λ n p e. rw e;
       unplanned = λ n p k e q. rw (e, q);
-      obeyed = λ k plan d e q parsed. rw (e, q, parsed) (walks sheet plan goal d parsed k 4096 q state);
+      obeyed = λ k plan d e q parsed. rw (e, q, parsed) (walks sheet plan goal d parsed k 512 q state);
     }

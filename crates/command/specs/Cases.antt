@@ -70,7 +70,7 @@ Holds (follows sheet plan state goal reply) = nextReply sheet plan state goal �
 Holds (applies sheet state machine byte reply) = applyReply sheet state machine byte ≡ reply
 Holds (runs sheet state goal buffer calls end applied) =
     (parse sheet ≡ given (parsedIn sheet))
-    × (planReply sheet buffer 4096 ≡ given (ownPlan (modelIn sheet)))
+    × (planReply sheet buffer 512 ≡ given (ownPlan (modelIn sheet)))
     × (clear (goalRefusals (modelIn sheet) (ownPlan (modelIn sheet)) state goal) ≡ true)
     × Run (lend sheet (ownPlan (modelIn sheet)) goal) (begins state) calls
     × (afterAll (lend sheet (ownPlan (modelIn sheet)) goal) (begins state) calls

@@ -56,4 +56,4 @@ afterPlanning sheet state goal (refused number place) = stopped number place ∷
 
 -- the lines of the walk: it plans with buffers of the right lengths, and obeys its own commands
 unfoldable pub walkLines : List ℕ → List ℕ → List ℕ → List Line
-walkLines sheet state goal = afterPlanning sheet state goal (andThen (lengthReply sheet) (λ n. planReply sheet n 4096))
+walkLines sheet state goal = afterPlanning sheet state goal (andThen (lengthReply sheet) (λ n. planReply sheet n 512))

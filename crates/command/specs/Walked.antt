@@ -24,9 +24,9 @@ module _ (sheet plan goal : List ℕ) (bound : ℕ) where
 -- The walk's lines: a refusal of planning alone, or those of obeying the plan, to the end.
 pub record WalkRight (sheet state goal : List ℕ) : Type 0 where
   pub unmeasured : (n p : ℕ) → lengthReply sheet ≡ refused n p → walkLines sheet state goal ≡ stopped n p ∷ []
-  pub unplanned : (n p k : ℕ) → lengthReply sheet ≡ given k → planReply sheet k 4096 ≡ refused n p
+  pub unplanned : (n p k : ℕ) → lengthReply sheet ≡ given k → planReply sheet k 512 ≡ refused n p
       → walkLines sheet state goal ≡ stopped n p ∷ []
-  pub obeyed : (k : ℕ) (plan : List ℕ) (d : Parsed) → lengthReply sheet ≡ given k → planReply sheet k 4096 ≡ given plan
+  pub obeyed : (k : ℕ) (plan : List ℕ) (d : Parsed) → lengthReply sheet ≡ given k → planReply sheet k 512 ≡ given plan
       → parse sheet ≡ given d → Obeys sheet plan goal (boundIn (d .model) plan) 0 state (walkLines sheet state goal)
 
 abbrev pub WalksRight : Type 0

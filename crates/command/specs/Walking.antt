@@ -64,7 +64,7 @@ linesBy (refused number place) count bound later = stopped number place ∷ []
 pub record TurnsRight (sheet state goal : List ℕ) : Type 0 where
   -- a buffer that is long enough
   pub begins : (buffer : ℕ) → ((n : ℕ) → lengthReply sheet ≡ given n → n ≤ buffer)
-      → walkLines sheet state goal ≡ afterPlanning sheet state goal (planFront sheet buffer 4096)
+      → walkLines sheet state goal ≡ afterPlanning sheet state goal (planFront sheet buffer 512)
   -- no plan is longer than this
   pub long-enough : (n : ℕ) → lengthReply sheet ≡ given n → n ≤ 32944
   -- one turn

@@ -43,10 +43,10 @@ module _ (m : Model) (groups : Grouping) where
   unfolding wrongBuffer
   right-buffer buffer scratch f = eqb-true _ _ (not-false _ (or-false-left _ _ f))
 
-  pub right-scratch : (buffer scratch : ℕ) → wrongBuffer m groups buffer scratch ≡ false → scratch ≡ 4096
+  pub right-scratch : (buffer scratch : ℕ) → wrongBuffer m groups buffer scratch ≡ false → 512 ≤ scratch
   unfolding wrongBuffer
   right-scratch buffer scratch f =
-      eqb-true _ _ (not-false _ (or-false-right (not (eqb buffer (planLength m groups))) _ f))
+      ltb-false _ _ (or-false-right (not (eqb buffer (planLength m groups))) _ f)
 
 -- The place of 9
 

@@ -48,7 +48,7 @@ pub record Accepted (m : Model) (plan : List ℕ) (buffer scratch : ℕ) : Type 
       sum (map (λ k. size m (groupsOf m) k * size m (groupsOf m) k) (upTo (groupCount (groupsOf m)))) ≤ 16384
   pub small-bound : planBound m (groupsOf m) (routesUpto m (groupsOf m) (groupCount (groupsOf m))) ≤ 65535
   pub right-buffer : buffer ≡ planLength m (groupsOf m)
-  pub right-scratch : scratch ≡ 4096
+  pub right-scratch : 512 ≤ scratch
 
 pub accepted-length : {m : Model} {plan : List ℕ} {buffer scratch : ℕ} → Accepted m plan buffer scratch
     → length plan ≡ planLength m (groupsOf m)

@@ -1,20 +1,26 @@
--- The replies of planning and of the plan's length are right: 9 to 12, the first that applies.
+-- The replies of planning and of the plan's length are right: 9 to 12, the first that applies, for every scratch.
 -- Assumes nothing.
 use Prim.Native.Nat.{ℕ, _≤_, _<_}
-use mathlib.Core.Path.{_≡_}
+use mathlib.Core.Path.{_≡_, refl, sym, _∙_}
+use mathlib.Core.List.{List}
 use mathlib.Core.Bool.{true, false}
+use native.Mathlib.Omega.{arith}
 use borrow.Author.Tests.{lt-ltb, le-ltb, eq-eqb}
 use Rattle.common.specs.Lists.{upTo}
+use Rattle.common.specs.Reply.{Reply, given, refused}
 use Rattle.common.proofs.Bools.{true-of-not-false, or-false-intro, not-of-true}
 use Rattle.common.proofs.Lists.{any-intro, any-fails}
 use Rattle.common.proofs.Members.{upTo-mem, upTo-below}
+use Rattle.common.proofs.Reply.{given-not-refused}
 use Rattle.sheet.specs.Model.{Model}
+use Rattle.sheet.specs.Parse.{Parsed, parse}
 use Rattle.plan.specs.Groups.{Grouping, groupCount, groupsOf}
 use Rattle.plan.specs.Modes.{size}
 use Rattle.plan.specs.Bytes.{planLength}
-use Rattle.plan.specs.Planning.{large, largeGroup, largePlace, largePlan, largeBound, wrongBuffer}
-use Rattle.plan.specs.Promised.{SmallGroups, squares, ownBound, Replied}
+use Rattle.plan.specs.Planning.{large, largeGroup, largePlace, largePlan, largeBound, wrongBuffer, planReply}
+use Rattle.plan.specs.Promised.{SmallGroups, squares, ownBound, Replied, ScratchRight}
 use Rattle.plan.proofs.Limits.{large-place, right-buffer, right-scratch}
+use Rattle.plan.proofs.Planning.{plan-unread, plan-accepted}
 use Rattle.plan.proofs.Planning.{plan-refused-9, plan-refused-10, plan-refused-11, plan-refused-12, plan-given}
 use Rattle.plan.proofs.Planning.{length-refused-9, length-refused-10, length-given}
 
@@ -36,12 +42,12 @@ module _ (m : Model) (groups : Grouping) where
   unfolding largePlan
   plan-small l = le-ltb _ _ l
 
-  pub buffers-right : (buffer scratch : ℕ) → buffer ≡ planLength m groups → scratch ≡ 4096
+  pub buffers-right : (buffer scratch : ℕ) → buffer ≡ planLength m groups → 512 ≤ scratch
       → wrongBuffer m groups buffer scratch ≡ false
   unfolding wrongBuffer
-  buffers-right buffer scratch b s = or-false-intro (not-of-true (eq-eqb _ _ b)) (not-of-true (eq-eqb _ _ s))
+  buffers-right buffer scratch b s = or-false-intro (not-of-true (eq-eqb _ _ b)) (le-ltb _ _ s)
 
-  pub buffers-wrong : (buffer scratch : ℕ) → (buffer ≡ planLength m groups → scratch ≡ 4096 → ⊥)
+  pub buffers-wrong : (buffer scratch : ℕ) → (buffer ≡ planLength m groups → 512 ≤ scratch → ⊥)
       → wrongBuffer m groups buffer scratch ≡ true
   buffers-wrong buffer scratch n =
       true-of-not-false (λ f. n (right-buffer m groups buffer scratch f) (right-scratch m groups buffer scratch f))
@@ -76,4 +82,22 @@ replied sheet d buffer scratch e =
           plan-given sheet d e buffer scratch (none-large m own s) (plan-small m own q) (bound-small m b)
           (buffers-right m own buffer scratch l r);
       reported = λ s q. length-given sheet d e (none-large m own s) (plan-small m own q);
+    }
+
+-- The scratch
+
+module _ (sheet : List ℕ) (buffer scratch : ℕ) where
+  short : scratch < 512 → (other : ℕ) (plan : List ℕ) → planReply sheet buffer other ≡ given plan → (r : Reply Parsed)
+      → parse sheet ≡ r → planReply sheet buffer scratch ≡ refused 12 0
+  short s other plan g (given d) e =
+      let a = plan-accepted sheet d e buffer other g in
+      replied sheet d buffer scratch e .twelve (a .small-groups) (a .small-plan) (a .small-bound) (λ _ l. omega (arith, s, l))
+  short s other plan g (refused n p) e = absurd (given-not-refused (sym g ∙ plan-unread sheet buffer other e))
+
+pub scratch-right : (sheet : List ℕ) (buffer : ℕ) → ScratchRight sheet buffer
+unfolding planReply wrongBuffer
+scratch-right sheet buffer =
+    record {
+      long-enough = λ scratch other a b. rw (le-ltb scratch 512 a, le-ltb other 512 b);
+      too-short = λ scratch other plan s g. short sheet buffer scratch s other plan g (parse sheet) refl;
     }

@@ -37,9 +37,9 @@ module _ (m : Model) (groups : Grouping) where
   unfoldable pub sizeFaults : List Fault
   sizeFaults = fault 9 largePlace largeGroup ∷ fault 10 0 largePlan ∷ []
 
-  -- 12: the plan buffer or the scratch has another length
+  -- 12: the plan buffer has another length, or the scratch is below 512 bytes
   unfoldable pub wrongBuffer : ℕ → ℕ → Bool
-  wrongBuffer buffer scratch = not (eqb buffer (planLength m groups)) || not (eqb scratch 4096)
+  wrongBuffer buffer scratch = not (eqb buffer (planLength m groups)) || ltb scratch 512
 
 -- the plan of a sheet
 unfoldable pub ownPlan : Model → List ℕ

@@ -61,9 +61,9 @@ pub record RepliesRight (sheet : List ℕ) (m : Model) (buffer scratch : ℕ) : 
   pub eleven : SmallGroups m (groupsOf m) → squares m (groupsOf m) ≤ 16384 → 65535 < ownBound m
       → planReply sheet buffer scratch ≡ refused 11 0
   pub twelve : SmallGroups m (groupsOf m) → squares m (groupsOf m) ≤ 16384 → ownBound m ≤ 65535
-      → (buffer ≡ planLength m (groupsOf m) → scratch ≡ 4096 → ⊥) → planReply sheet buffer scratch ≡ refused 12 0
+      → (buffer ≡ planLength m (groupsOf m) → 512 ≤ scratch → ⊥) → planReply sheet buffer scratch ≡ refused 12 0
   pub accepted : SmallGroups m (groupsOf m) → squares m (groupsOf m) ≤ 16384 → ownBound m ≤ 65535
-      → buffer ≡ planLength m (groupsOf m) → scratch ≡ 4096 → planReply sheet buffer scratch ≡ given (ownPlan m)
+      → buffer ≡ planLength m (groupsOf m) → 512 ≤ scratch → planReply sheet buffer scratch ≡ given (ownPlan m)
   pub reported : SmallGroups m (groupsOf m) → squares m (groupsOf m) ≤ 16384
       → lengthReply sheet ≡ given (planLength m (groupsOf m))
 
@@ -75,6 +75,13 @@ abbrev pub SheetFirst : Type 0
 SheetFirst =
     (sheet : List ℕ) (n p : ℕ) → parse sheet ≡ refused n p
     → (lengthReply sheet ≡ refused n p) × ((buffer scratch : ℕ) → planReply sheet buffer scratch ≡ refused n p)
+
+-- The scratch: from 512 bytes up its length changes no reply, and below no plan is given.
+pub record ScratchRight (sheet : List ℕ) (buffer : ℕ) : Type 0 where
+  pub long-enough : (scratch other : ℕ) → 512 ≤ scratch → 512 ≤ other
+      → planReply sheet buffer scratch ≡ planReply sheet buffer other
+  pub too-short : (scratch other : ℕ) (plan : List ℕ) → scratch < 512 → planReply sheet buffer other ≡ given plan
+      → planReply sheet buffer scratch ≡ refused 12 0
 
 -- What planning leaves in the bytes it was lent: the plan and zeros, or all as it was.
 pub record LeftRight (sheet buffer scratch : List ℕ) : Type 0 where

@@ -36,7 +36,7 @@ fn refusal(cause: Cause, place: usize) -> Outline
         verdict: Verdict::Refused(cause, place),
         sheet: Sheet::empty(),
         groups: Groups::none(),
-        starts: [0; 33],
+        starts: [0u32; 33],
     }
 }
 

@@ -6,7 +6,7 @@ ghost use Rattle.sheet.specs.Valid.{Valid};
 ghost use Rattle.plan.specs.Groups.{groupsOf};
 ghost use Rattle.plan.specs.Laws.{Lawful};
 ghost use Rattle.plan.specs.Meaning.{GroupsRight, ModesRight};
-ghost use Rattle.plan.specs.Promised.{BoundsRight, LeftRight, Planned, Replied, SheetFirst, UsableRight};
+ghost use Rattle.plan.specs.Promised.{BoundsRight, LeftRight, Planned, Replied, ScratchRight, SheetFirst, UsableRight};
 ghost use Rattle.plan.specs.Shape.{ShapesRight};
 
 // The groups of a sheet are its sets of mutual need, and the needed ones have lower numbers.
@@ -37,6 +37,11 @@ pub fn replies_are_right()
 // A sheet that is refused is refused alike by planning and by the plan's length.
 pub fn sheet_comes_first()
     ensures { λ _. ⌜ SheetFirst ⌝ }
+{}
+
+// From 512 bytes up the length of the scratch changes no reply, so no plan; below no plan is given.
+pub fn scratches_are_right()
+    ensures { λ _. ⌜ ((sheet : List ℕ) (buffer : ℕ) → ScratchRight sheet buffer) ⌝ }
 {}
 
 // What planning leaves in the lent plan buffer and scratch: the plan and zeros, or all as it was.

@@ -59,9 +59,9 @@ impl Sheet {
         Sheet {
             machines: 0,
             moves: 0,
-            modes: [0; 32],
-            live: [0; 32],
-            bodies: [0; 250],
+            modes: [0u8; 32],
+            live: [0u8; 32],
+            bodies: [0u16; 250],
         }
     }
 
