@@ -9,6 +9,7 @@ pub mod expected;
 pub mod faults;
 pub mod graph;
 pub mod groups;
+pub mod inputs;
 pub mod join;
 pub mod library;
 pub mod pictures;

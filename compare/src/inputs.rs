@@ -1,0 +1,162 @@
+//! Inputs of the calls that are dear in time or memory, and the stove and the
+//! kitchen.
+
+use crate::calls::{Call, Lent, Slot};
+use crate::command::Command;
+use crate::graph::MAX_READ;
+use crate::join::{in_one_slice, MAX_GOALS};
+use crate::pictures::{own_text, Drawing};
+use crate::plan::MIN_SCRATCH;
+use crate::random::{self, Random};
+use crate::samples::{blocks, chain, dials, fullest, stove};
+use crate::sheet::{Sheet, MAX_MACHINES};
+use crate::state::{set_mode, tagged, untagged};
+use crate::version::{Rust, Version};
+use crate::walk::own_plan;
+
+/// The seed of the random sheet.
+const RANDOM: u64 = 2611;
+
+const KITCHEN: &[u8] = include_bytes!("../../examples/kitchen/sheet.bin");
+
+pub struct Input {
+    pub name: &'static str,
+    /// The calls that it is for; none means all of them.
+    only: &'static [&'static str],
+    pub lent: Lent,
+}
+
+impl Input {
+    fn new(name: &'static str, sheet: &[u8]) -> Self {
+        let (only, lent) = ([].as_slice(), prepared(sheet));
+        Input { name, only, lent }
+    }
+
+    fn only(self, only: &'static [&'static str]) -> Self {
+        Input { only, ..self }
+    }
+
+    /// For drawing and for reading the picture alone.
+    fn drawn(name: &'static str, sheet: &[u8]) -> Self {
+        Input::new(name, sheet).only(&["graph", "graph_read"])
+    }
+
+    /// For the next command alone, from a state toward a goal.
+    fn asked(name: &'static str, sheet: &[u8], state: &[u8], goal: &[u8]) -> Self {
+        let mut input = Input::new(name, sheet).only(&["next"]);
+        input.lent.state = Slot::new(state);
+        input.lent.goal = Slot::new(goal);
+        input
+    }
+
+    /// For joining alone, of these goals.
+    fn joined<G: AsRef<[u8]>>(name: &'static str, sheet: &[u8], goals: &[G]) -> Self {
+        let mut input = Input::new(name, sheet).only(&["join"]);
+        input.lent.wishes = Slot::new(&in_one_slice(goals));
+        input
+    }
+
+    pub fn serves(&self, call: &Call) -> bool {
+        self.only.is_empty() || self.only.contains(&call.name)
+    }
+}
+
+pub fn inputs() -> Vec<Input> {
+    let mut inputs = vec![
+        Input::new("fullest", &fullest()),
+        Input::new("stove", &stove()),
+        Input::new("kitchen", KITCHEN),
+        Input::new("four-of-64", &blocks(4, 0, true)),
+        Input::new("five-dials", &dials(5)),
+        Input::new("six-dials", &dials(6)).only(&["plan"]),
+        Input::asked("kitchen-done", KITCHEN, &untagged(&[0; 20]), &[]),
+    ];
+    inputs.extend(chains());
+    inputs.extend(eight_wishes());
+    inputs.extend(pictures());
+    inputs
+}
+
+/// The last machine of the longest chain is to be on: attainable, then refused
+/// as 16 (the first is out of order, or tagged), 17 (the last is to be out of
+/// order) and 18 (the first is to stay off).
+fn chains() -> [Input; 5] {
+    let sheet = chain(MAX_MACHINES as u8);
+    let last = MAX_MACHINES - 1;
+    let off = untagged(&[0; MAX_MACHINES]);
+    let mut broken = off.clone();
+    set_mode(&mut broken, 0, 2);
+    let mut last_on = [3; MAX_MACHINES];
+    last_on[last] = 2;
+    let (mut last_broken, mut first_off) = (last_on, last_on);
+    last_broken[last] = 4;
+    first_off[0] = 1;
+    [
+        Input::asked("chain", &sheet, &off, &last_on),
+        Input::asked("chain-16", &sheet, &broken, &last_on),
+        Input::asked("chain-tagged", &sheet, &tagged(&off, 0), &last_on),
+        Input::asked("chain-17", &sheet, &off, &last_broken),
+        Input::asked("chain-18", &sheet, &off, &first_off),
+    ]
+}
+
+/// As many goals as are joined, each for all machines of the longest chain; then
+/// with the last machine left without a mode, refused as 19.
+fn eight_wishes() -> [Input; 2] {
+    let sheet = chain(MAX_MACHINES as u8);
+    let last = MAX_MACHINES - 1;
+    let agreed = [[3; MAX_MACHINES]; MAX_GOALS];
+    let mut apart = agreed;
+    (apart[0][last], apart[MAX_GOALS - 1][last]) = (1, 2);
+    [
+        Input::joined("eight-wishes", &sheet, &agreed),
+        Input::joined("eight-wishes-19", &sheet, &apart),
+    ]
+}
+
+/// A random sheet of 28 machines and 250 moves, in 20 groups with 70 edges; the
+/// longest text, of 32 groups and all 496 edges; and that text with its last edge
+/// twice, refused as 20.
+fn pictures() -> [Input; 3] {
+    let longest = Drawing::all_edges(MAX_MACHINES as u8);
+    let mut twice = Input::new("edge-twice", &longest.sheet()).only(&["graph_read"]);
+    let mut edges = longest.edges.clone();
+    edges.extend(longest.edges.last());
+    let groups = longest.groups.clone();
+    twice.lent.text = Slot::new(Drawing { groups, edges }.text().as_bytes());
+    [
+        Input::drawn("random", &random::sheet(&mut Random::new(RANDOM))),
+        Input::drawn("all-edges", &longest.sheet()),
+        twice,
+    ]
+}
+
+/// A sheet with its own plan, or zeros as long where there is none, every
+/// machine in mode 0, untagged and wanted in mode 1, the command of the first
+/// move, a second goal to be joined: mode 0 or 1 for the first half of the
+/// machines; and the text of its picture, with buffers for this and for what it
+/// says.
+pub fn prepared(bytes: &[u8]) -> Lent {
+    let sheet = Sheet::read(bytes).expect("a sheet");
+    let length = Rust::plan_length(bytes).unwrap_or(0);
+    let goal = vec![2; sheet.machines()];
+    let other = vec![3; sheet.machines() / 2];
+    let first = sheet.step(0);
+    let text = own_text::<Rust>(bytes).expect("a text");
+    Lent {
+        plan: Slot::new(&own_plan::<Rust>(bytes).unwrap_or(vec![0; length as usize])),
+        scratch: Slot::new(&[0; MIN_SCRATCH]),
+        state: Slot::new(&untagged(&vec![0; sheet.machines()])),
+        goal: Slot::new(&goal),
+        command: Command {
+            machine: first.machine as u8,
+            command: first.command,
+        },
+        wishes: Slot::new(&in_one_slice(&[goal, other])),
+        out: Slot::new(&vec![0; sheet.machines()]),
+        drawn: Slot::new(&vec![0; text.len()]),
+        text: Slot::new(&text),
+        shown: Slot::new(&[0; MAX_READ]),
+        ..Lent::sheet(bytes)
+    }
+}
