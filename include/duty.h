@@ -35,6 +35,9 @@ extern "C" {
 /* The least scratch of planning; a longer one is taken as well. */
 #define DUTY_SCRATCH 512
 
+/* No call takes more stack than this, by measure. */
+#define DUTY_STACK 16384
+
 /* The longest state that is accepted, two bytes for each machine: its mode, then
  * its tag. The tag is 1 while nobody may move the machine, else 0. */
 #define DUTY_STATE_MAX 64

@@ -2,6 +2,7 @@
 //! from the proved one. The tests hold the two against each other and the
 //! benchmark measures one by the other.
 
+pub mod arrays;
 pub mod both;
 pub mod calls;
 pub mod command;
@@ -22,6 +23,8 @@ pub mod sheet;
 pub mod state;
 pub mod version;
 pub mod walk;
+
+use std::io::Write;
 
 /// Why a call is turned down: the number of the cause and the place of it.
 #[derive(Clone, Copy, Debug, PartialEq, Eq)]
@@ -59,4 +62,12 @@ pub fn bits(mut set: u64) -> impl Iterator<Item = usize> {
 /// The highest member of a bit set, if it has one.
 pub fn highest(set: u32) -> Option<usize> {
     set.checked_ilog2().map(|bit| bit as usize)
+}
+
+/// Writes a line that the test harness does not hold back.
+pub fn say(line: String) {
+    let line = line + "\n";
+    std::io::stderr()
+        .write_all(line.as_bytes())
+        .expect("standard error");
 }

@@ -10,11 +10,11 @@ use duty_compare::plan::MIN_SCRATCH;
 use duty_compare::state::untagged;
 use duty_compare::version::{Rust, Version};
 use duty_compare::walk::walk;
-use duty_compare::{refuse, Reply};
+use duty_compare::{refuse, say, Reply};
 use std::collections::HashMap;
 use std::fs;
 use std::hint::black_box;
-use std::io::{ErrorKind, Write};
+use std::io::ErrorKind;
 use std::panic::catch_unwind;
 use std::path::{Path, PathBuf};
 
@@ -118,14 +118,6 @@ impl Recording {
             _ => reply,
         }
     }
-}
-
-/// Writes a line that the test harness does not hold back.
-fn say(line: String) {
-    let line = line + "\n";
-    std::io::stderr()
-        .write_all(line.as_bytes())
-        .expect("standard error");
 }
 
 fn hex(text: &str) -> Vec<u8> {
