@@ -3,6 +3,7 @@ use command::walking::Start;
 use command::walking::Turned;
 use command::walking::begin;
 use command::walking::turn;
+use plan::making::Scratch;
 use printer::labelled;
 use printer::load;
 use printer::refusal_line;
@@ -56,7 +57,7 @@ fn obey(file: &[u8], plan: &[u8], state: &mut [u8], goal: &[u8], bound: u64) {
 // Prints the walk of a sheet from a state to a goal. No plan is longer than the buffer.
 pub fn print_walk(file: &[u8], state: &mut [u8], goal: &[u8]) {
     let mut buffer = [0u8; 32944];
-    let mut scratch = [0u8; 512];
+    let mut scratch = [0u8; Scratch::LEAST];
     let started = begin(file, &mut buffer, &mut scratch);
     let Start::Ready(bytes, bound) = started else {
         let Start::Stopped(cause, place) = started else {
