@@ -26,7 +26,7 @@ check() {
 cargo_tests() {
     (cd compare && cargo test --release --offline --no-fail-fast) >"$work/tests" 2>&1
     local status=$? ok bad skipped
-    local told='(skipped: .*|[0-9]+ .* agree.*|[0-9]+ arrays .*|the deepest call .*)'
+    local told='(skipped: .*|[0-9]+ .* agree.*|[0-9]+ arrays .*|stack of .*|the deepest call .*)'
     read -r ok bad < <(awk '/^test result:/ { ok += $4; bad += $6 } END { print ok + 0, bad + 0 }' "$work/tests")
     # A build that fails has no counts of its own.
     if [ "$status" -ne 0 ] && [ "$bad" -eq 0 ]; then bad=1; fi

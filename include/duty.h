@@ -35,7 +35,8 @@ extern "C" {
 /* The least scratch of planning; a longer one is taken as well. */
 #define DUTY_SCRATCH 512
 
-/* No call takes more stack than this, by measure. */
+/* More stack than any call took where that was measured: on x86-64, by
+ * compare/tests/memory.rs. */
 #define DUTY_STACK 16384
 
 /* The longest state that is accepted, two bytes for each machine: its mode, then

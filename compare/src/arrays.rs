@@ -1,5 +1,5 @@
-//! The arrays of a Rattle source and their bytes, read from its text. What cannot be
-//! read is told too, so that no array is passed over.
+//! The arrays of a Rattle source and their bytes, read from its text, strings among
+//! them. What cannot be read is told too, so that no array is passed over.
 
 /// The bytes of an element by its type, or by its value where that tells no type.
 const TYPES: [(&str, usize); 8] = [
@@ -13,13 +13,15 @@ const TYPES: [(&str, usize); 8] = [
     ("false", 1),
 ];
 
-/// A word or a sign of a source and its place there.
+const QUOTE: char = '"';
+
+/// A word, a string or a sign of a source and its place there.
 struct Token<'a> {
     at: usize,
     text: &'a str,
 }
 
-/// The words and signs of a source that are code.
+/// The words, strings and signs of a source that are code.
 fn tokens(source: &str) -> Vec<Token<'_>> {
     let mut tokens = Vec::new();
     let mut at = 0;
@@ -37,12 +39,11 @@ fn tokens(source: &str) -> Vec<Token<'_>> {
 }
 
 /// The length of what is no code at the front of a text: a space, a comment, a
-/// contract, or what stands in quotes. A sign that nothing closes is code.
+/// contract, or a character. A sign that nothing closes is code.
 fn no_code(text: &str) -> usize {
     let first = text.chars().next().unwrap_or_default();
     match first {
         '⌜' => text.find('⌝').map_or(0, |end| end + '⌝'.len_utf8()),
-        '"' => string(text),
         '\'' => character(text),
         '/' if text.starts_with("//") => text.find('\n').unwrap_or(text.len()),
         _ if first.is_whitespace() => first.len_utf8(),
@@ -56,7 +57,7 @@ fn string(text: &str) -> usize {
     for (at, sign) in text.char_indices().skip(1) {
         match sign {
             '\n' => return 0,
-            '"' if !escaped => return at + 1,
+            QUOTE if !escaped => return at + 1,
             _ => escaped = sign == '\\' && !escaped,
         }
     }
@@ -76,9 +77,12 @@ fn character(text: &str) -> usize {
     }
 }
 
-/// The length of the word or the sign at the front of a text.
+/// The length of the word, the string or the sign at the front of a text.
 fn word(text: &str) -> usize {
     let sign = text.chars().next().map_or(0, char::len_utf8);
+    if text.starts_with(QUOTE) {
+        return string(text).max(sign);
+    }
     let end = text.find(|sign: char| !sign.is_alphanumeric() && sign != '_');
     end.unwrap_or(text.len()).max(sign)
 }
@@ -197,18 +201,9 @@ fn bytes(inside: &[Token], constants: &Constants) -> Option<usize> {
         [value, number] => element(value, constants)?.checked_mul(length(number, constants)?),
         [list] => {
             let listed = parts(list, ",").into_iter().filter(|part| !part.is_empty());
-            listed.map(|part| listed_bytes(part, constants)).sum()
+            listed.map(|part| element(part, constants)).sum()
         }
         _ => None,
-    }
-}
-
-/// The bytes of an element of a list. One that is no array counts as the largest
-/// number, be it smaller or not.
-fn listed_bytes(tokens: &[Token], constants: &Constants) -> Option<usize> {
-    match tokens {
-        [first, ..] if first.text == "[" => element(tokens, constants),
-        _ => Some(8),
     }
 }
 
@@ -226,7 +221,12 @@ pub struct Array<'a> {
     pub bytes: Option<usize>,
 }
 
-/// All arrays of a source, those within others too.
+/// The bytes between the quotes of a string, none if nothing closes it.
+fn quoted(text: &str) -> Option<usize> {
+    text.len().checked_sub(2)
+}
+
+/// All arrays of a source, those within others too, and its strings.
 pub fn arrays<'a>(source: &'a str, constants: &Constants) -> Vec<Array<'a>> {
     let tokens = tokens(source);
     let mut arrays = Vec::new();
@@ -236,7 +236,8 @@ pub fn arrays<'a>(source: &'a str, constants: &Constants) -> Vec<Array<'a>> {
                 Some(inside) if !is_array(inside) => continue,
                 inside => inside.and_then(|inside| bytes(inside, constants)),
             },
-            "⌜" | "⌝" | "\"" => None,
+            "⌜" | "⌝" => None,
+            text if text.starts_with(QUOTE) => quoted(text),
             _ => continue,
         };
         let line = source[..token.at].matches('\n').count();

@@ -524,7 +524,7 @@ fn scratch(random: &mut Random) -> Vec<u8> {
         0 => random.below(MIN_SCRATCH),
         1 => MIN_SCRATCH - 1,
         2 => MIN_SCRATCH + 1,
-        3 => 70_000,
+        3 => 65_536 + random.below(8 * MIN_SCRATCH),
         4..=9 => MIN_SCRATCH + random.below(8 * MIN_SCRATCH),
         _ => MIN_SCRATCH,
     };

@@ -98,7 +98,7 @@ fn no_array_of_the_library_is_above_512_bytes() {
     assert!(refused.is_empty(), "\n{}", refused.join("\n"));
     let largest = read.iter().max().expect("an array");
     say(format!(
-        "{} arrays of the library's source read, the largest of {largest} bytes",
+        "{} arrays and strings of the library's source read, the largest of {largest} bytes",
         read.len()
     ));
 }
@@ -140,12 +140,12 @@ fn an_array_that_can_be_read_is_seen() {
             &[128, 64, 64],
         ),
         ("[\n    0u64; // 1\n    65\n]", &[520]),
-        ("[a, 0u8, f(b, c)]", &[24]),
+        ("[0u8, 255u8, 2u16,]", &[4]),
         ("// [0u64; 65]\n[u8; 1]", &[1]),
         ("⌜ [u64; 65]\n[0; n] ⌝ [u8; 1] // ⌜\n[u8; 2]", &[1, 2]),
         (
             r#"b"[0u64; 65] \" " b'"' [u8; 1] '\'' &'a [u8; 2]"#,
-            &[1, 2],
+            &[14, 1, 2],
         ),
         (
             "#[derive(A, B)] a[i] s[..f(n, 2)] &'a [u8] &mut [u8] {[], _}",
@@ -156,9 +156,10 @@ fn an_array_that_can_be_read_is_seen() {
         let expected: Vec<_> = expected.iter().copied().map(Some).collect();
         assert_eq!(seen(text), expected, "{text}");
     }
-    let list = |number| format!("[{}]", "a, ".repeat(number));
-    assert_eq!(seen(&list(64)), [Some(MOST)]);
-    assert_eq!(seen(&list(65)), [Some(MOST + 8)]);
+    let list = |number| format!("[{}]", "0u64, ".repeat(number));
+    assert_eq!(seen(&list(65)), [Some(520)]);
+    let string = |number| format!("put(b\"{}\")", "a".repeat(number));
+    assert_eq!(seen(&string(513)), [Some(513)]);
 }
 
 #[test]
@@ -173,6 +174,9 @@ fn what_cannot_be_read_is_seen() {
         "[(u8); 2]",
         "[u8 + u8; 2]",
         "[; 2]",
+        "[0u8, 1]",
+        "[a, b]",
+        "[f(b, c), 0u8]",
         // No length, or an unknown one.
         "[u8; ]",
         "[u8; n]",
@@ -311,20 +315,29 @@ fn named_inputs() -> Vec<(String, Lent)> {
     named.chain(rounds).collect()
 }
 
-/// The most stack that a call of a version takes; which call, on which input.
-fn deepest(inputs: &[(String, Lent)], side: fn(&Call) -> Side) -> (usize, String) {
-    let mut deepest = (0, String::new());
-    for call in &CALLS {
-        for (input, lent) in inputs {
-            let bytes = taken(side(call), lent);
-            let said = format!("{} on {input}", call.name);
-            assert!(bytes > 0, "{said}: nothing was seen");
-            if bytes > deepest.0 {
-                deepest = (bytes, said);
-            }
+/// The most stack that one version of a call takes, and the first input where it
+/// does.
+fn most_taken(side: Side, inputs: &[(String, Lent)]) -> (usize, String) {
+    let mut most = (0, String::new());
+    for (input, lent) in inputs {
+        let bytes = taken(side, lent);
+        assert!(bytes > 0, "{input}: nothing was seen");
+        if bytes > most.0 {
+            most = (bytes, input.clone());
         }
     }
-    deepest
+    most
+}
+
+/// The most stack that a call takes, which it says beside that of the Rust version.
+fn measured(call: &Call, inputs: &[(String, Lent)]) -> usize {
+    let [(bytes, input), (rust, on)] =
+        [call.library, call.rust].map(|side| most_taken(side, inputs));
+    let name = call.name;
+    say(format!(
+        "stack of {name}: {bytes} bytes on {input} (the Rust version: {rust} on {on})"
+    ));
+    bytes
 }
 
 /// The stack that a call may take, by the header.
@@ -338,16 +351,17 @@ fn most_stack() -> usize {
 /// The header's number must be near the truth, so it may not be twice as large.
 #[test]
 fn says_how_much_stack_the_deepest_call_takes() {
-    let [(bytes, call), (rust_bytes, rust_call)] = on_a_large_stack(|| {
+    let (bytes, call) = on_a_large_stack(|| {
         let inputs = named_inputs();
-        let sides: [fn(&Call) -> Side; 2] = [|call| call.library, |call| call.rust];
-        sides.map(|side| deepest(&inputs, side))
+        let measured = CALLS
+            .iter()
+            .map(|call| (measured(call, &inputs), call.name));
+        measured.max().expect("a call")
     });
     let most = most_stack();
     assert!(bytes <= most, "{call} takes {bytes}, above {most}");
     assert!(bytes > most / 2, "{call} takes {bytes}, far below {most}");
     say(format!(
-        "the deepest call takes {bytes} bytes of stack: {call} \
-         (the Rust version: {rust_bytes}, {rust_call})"
+        "the deepest call is {call}: {bytes} bytes of stack"
     ));
 }

@@ -8,7 +8,7 @@ use duty_compare::samples::{blocks, circle, dials, filter, fullest, longest_plan
 use duty_compare::{refuse, Reply};
 
 const TOO_SHORT: [usize; 3] = [0, 1, 511];
-const LONG_ENOUGH: [usize; 4] = [512, 513, 4096, 70_000];
+const LONG_ENOUGH: [usize; 5] = [512, 513, 4096, 65_536, 70_000];
 
 /// What planning replies, and the buffer and the scratch that it leaves, where
 /// they were full of other bytes.
@@ -63,7 +63,7 @@ fn from_512_bytes_up_the_plan_is_the_same_and_the_scratch_all_zero() {
 }
 
 #[test]
-fn every_length_about_512_and_4096_is_judged_alike() {
+fn every_length_is_judged_by_512_alone() {
     let own = own_plan(&stove()).expect("a plan");
     for scratch in (0..=1100).chain(4000..=4200) {
         if scratch < MIN_SCRATCH {

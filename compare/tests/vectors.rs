@@ -88,8 +88,8 @@ impl Recording {
         self.request >= 6
     }
 
-    /// A recorded length of the scratch. One that was wrong because it was not
-    /// 4,096 is read as one that is too short.
+    /// A recorded length of the scratch. Where 4,096 bytes alone are taken, any
+    /// other length is read as one that is too short.
     fn scratch(&self, recorded: usize) -> usize {
         if self.any_scratch() || recorded == 4096 {
             recorded

@@ -54,6 +54,6 @@ afterPlanning sheet state goal (given plan) =
     obey sheet plan goal (boundWritten (parse sheet) plan) (suc (boundWritten (parse sheet) plan)) 0 state
 afterPlanning sheet state goal (refused number place) = stopped number place ∷ []
 
--- the lines of the walk: it plans with buffers of the right lengths, and obeys its own commands
+-- the lines of the walk: it plans with a buffer of the plan's length and the least scratch, and obeys its own commands
 unfoldable pub walkLines : List ℕ → List ℕ → List ℕ → List Line
 walkLines sheet state goal = afterPlanning sheet state goal (andThen (lengthReply sheet) (λ n. planReply sheet n 512))

@@ -76,7 +76,7 @@ SheetFirst =
     (sheet : List ℕ) (n p : ℕ) → parse sheet ≡ refused n p
     → (lengthReply sheet ≡ refused n p) × ((buffer scratch : ℕ) → planReply sheet buffer scratch ≡ refused n p)
 
--- The scratch: from 512 bytes up its length changes no reply, and below no plan is given.
+-- The scratch: from 512 bytes up its length changes no reply; below 512 no plan is given.
 pub record ScratchRight (sheet : List ℕ) (buffer : ℕ) : Type 0 where
   pub long-enough : (scratch other : ℕ) → 512 ≤ scratch → 512 ≤ other
       → planReply sheet buffer scratch ≡ planReply sheet buffer other

@@ -39,7 +39,7 @@ pub fn sheet_comes_first()
     ensures { λ _. ⌜ SheetFirst ⌝ }
 {}
 
-// From 512 bytes up the length of the scratch changes no reply, so no plan; below no plan is given.
+// From 512 bytes up the length of the scratch changes no reply, and so no plan; below 512 no plan is given.
 pub fn scratches_are_right()
     ensures { λ _. ⌜ ((sheet : List ℕ) (buffer : ℕ) → ScratchRight sheet buffer) ⌝ }
 {}
