@@ -10,6 +10,7 @@ pub mod expected;
 pub mod faults;
 pub mod graph;
 pub mod groups;
+pub mod header;
 pub mod inputs;
 pub mod join;
 pub mod library;

@@ -7,6 +7,7 @@ use duty_compare::both::{
     check_sheet, graph, graph_read, join, next_command, own_plan, plan_length,
 };
 use duty_compare::command::{Effect, Next};
+use duty_compare::header::{constant, HEADER};
 use duty_compare::join::in_one_slice;
 use duty_compare::pictures::Drawing;
 use duty_compare::plan::MIN_SCRATCH;
@@ -16,7 +17,6 @@ use duty_compare::sheet::MAX_MOVES;
 use std::collections::BTreeMap;
 
 const SOURCE: &str = include_str!("../../crates/panel/src/lib.rt");
-const HEADER: &str = include_str!("../../include/duty.h");
 const DECLARED: &str = include_str!("../src/library.rs");
 
 /// The words of the source that the header has others for.
@@ -223,13 +223,6 @@ fn a_difference_in_the_source_or_in_this_package_is_seen() {
         let declared = edited(DECLARED, old, new);
         assert_ne!(declared_in_rust(&declared), exported(SOURCE), "{old}");
     }
-}
-
-/// The number that the header gives a name.
-fn constant(name: &str) -> usize {
-    let (_, rest) = split(HEADER, &format!("#define {name} "));
-    let number = rest.lines().next().expect("a line");
-    number.parse().expect("a number")
 }
 
 #[test]

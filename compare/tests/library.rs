@@ -15,11 +15,10 @@ use duty_compare::shape::Plan;
 use duty_compare::sheet::Sheet;
 use duty_compare::version::Rust;
 use duty_compare::walk::own_plan;
-use duty_compare::{refuse, Reply};
+use duty_compare::{refuse, say, Reply};
 use std::collections::BTreeMap;
 use std::fmt::{Display, Formatter};
 use std::hint::black_box;
-use std::io::Write;
 
 fn setting(name: &str, usual: u64) -> u64 {
     let text = std::env::var(name).ok();
@@ -254,10 +253,7 @@ fn on_random_rounds() {
         let what = format!("DUTY_ROUNDS=1 DUTY_SEED={seed}");
         tally.add(&input, replies(&input, &what));
     }
-    let line = format!("{rounds} random rounds agree: {tally}\n");
-    std::io::stderr()
-        .write_all(line.as_bytes())
-        .expect("standard error");
+    say(format!("{rounds} random rounds agree: {tally}"));
     assert!(
         rounds < 20_000 || tally.least() >= Some(10),
         "a reply hardly tried"

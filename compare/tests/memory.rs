@@ -3,6 +3,7 @@
 
 use duty_compare::arrays::{arrays, constants, Array};
 use duty_compare::calls::{Call, Lent, Side, CALLS};
+use duty_compare::header::constant;
 use duty_compare::inputs::{inputs, prepared};
 use duty_compare::random::{self, Random};
 use duty_compare::samples::{circle, longest_plan, product, snake};
@@ -14,7 +15,6 @@ use std::ptr::from_ref;
 use std::thread;
 
 const CRATES: &str = include_str!("../../crates.txt");
-const HEADER: &str = include_str!("../../include/duty.h");
 
 /// The bytes that an array may have at most.
 const MOST: usize = 512;
@@ -340,14 +340,6 @@ fn measured(call: &Call, inputs: &[(String, Lent)]) -> usize {
     bytes
 }
 
-/// The stack that a call may take, by the header.
-fn most_stack() -> usize {
-    let definition = HEADER.split_once("#define DUTY_STACK ");
-    let (_, rest) = definition.expect("a definition");
-    let number = rest.lines().next().expect("a line");
-    number.parse().expect("a number")
-}
-
 /// The header's number must be near the truth, so it may not be twice as large.
 #[test]
 fn says_how_much_stack_the_deepest_call_takes() {
@@ -358,7 +350,7 @@ fn says_how_much_stack_the_deepest_call_takes() {
             .map(|call| (measured(call, &inputs), call.name));
         measured.max().expect("a call")
     });
-    let most = most_stack();
+    let most = constant("DUTY_STACK");
     assert!(bytes <= most, "{call} takes {bytes}, above {most}");
     assert!(bytes > most / 2, "{call} takes {bytes}, far below {most}");
     say(format!(
