@@ -1,4 +1,4 @@
--- The replies of planning and of the plan's length are right: 9 to 12, the first that applies; and what the scratch's length changes.
+-- The replies of planning and of the plan's length: 9 to 12, the first that applies, and what the scratch's length changes.
 -- Assumes nothing.
 use Prim.Native.Nat.{ℕ, _≤_, _<_}
 use mathlib.Core.Path.{_≡_, refl, sym, _∙_}
