@@ -21,7 +21,7 @@ use Rattle.sheet.specs.Faults.{machineFaults, moveFaults}
 use Rattle.sheet.specs.Valid.{ValidGuard, ValidMove, ValidMachine}
 use Rattle.sheet.proofs.Guards.{guard-count}
 
-ruleset parts = (or-false-left, or-false-right)
+pub ruleset parts = (or-false-left, or-false-right)
 
 pub machine-fits : (modes live : ℕ) → badMachine modes live ≡ false → ValidMachine modes live
 unfolding badMachine

@@ -10,8 +10,10 @@ pub mod Exact
 pub mod Fits
 pub mod Guarantees
 pub mod Guards
+pub mod Holding
 pub mod Indexed
 pub mod Judging
+pub mod KeyChains
 pub mod Keys
 pub mod Modes
 pub mod Order

@@ -1,20 +1,23 @@
 -- What a record that passes its causes tells, and where it leads.
 -- Assumes nothing.
 use Prim.Native.Nat.{ℕ, _+_, _≤_, _<_}
-use mathlib.Core.Path.{_≡_, refl, sym, ap, ap₂, _∙_}
-use mathlib.Core.Bool.{cond}
+use mathlib.Core.Path.{_≡_, refl, sym, ap, _∙_}
+use mathlib.Core.Bool.{false, cond}
 use mathlib.Core.List.{List, [], _∷_}
 use native.Mathlib.Omega.{arith}
-use borrow.Author.Tests.{lt-ltb, le-ltb, ne-eqb}
-use lib.Dec.{eqb, ltb}
+use borrow.Author.Tests.{lt-ltb, le-ltb, ltb-false, leb-false, ne-eqb}
+use lib.Dec.{eqb, ltb, leb}
 use lib.ListN.{length}
 use Rattle.common.specs.Reply.{Reply, given, Fault, fault, unless}
+use Rattle.common.proofs.Bools.{by-cases}
 use Rattle.common.proofs.Reply.{Clear, unless-clear, unless-first, given-clear, refused-anyway}
 use Rattle.sheet.specs.declared.record.Record.{Record}
 use Rattle.sheet.specs.declared.record.Record.the-variants.{Whole, Cut}
 use Rattle.sheet.specs.Record.{byte, recordAt, bodyAt}
-use Rattle.sheet.specs.Model.{Move, moveOf}
+use Rattle.sheet.specs.Model.{Move, Model, moveCount, moveOf}
+use Rattle.sheet.specs.Faults.{wrongMoveLength, badMove, badCommand}
 use Rattle.sheet.specs.Faults.{machineFaults, moveFaults, endFaults, faultsOf}
+use Rattle.sheet.specs.declared.judge.Counts.{Counts}
 use Rattle.sheet.specs.declared.judge.Judged.{Judged}
 use Rattle.sheet.specs.declared.judge.Judged.the-variants.{Fine, Faulty}
 use Rattle.sheet.specs.declared.refusal.Cause.{Cause}
@@ -22,11 +25,12 @@ use Rattle.sheet.specs.declared.refusal.Cause.the-variants.{CutShort, Wr
 use Rattle.sheet.specs.declared.scan.Step.{Step}
 use Rattle.sheet.specs.declared.scan.Step.the-variants.{NewMachine, NewMove, End, Refused}
 use Rattle.sheet.specs.Parse.{Parsed, Turn, more, ended, extended, turnAt, turnOf}
-use Rattle.sheet.specs.Held.{fine, judgedOf, keyOf, Held}
-use Rattle.sheet.specs.Scan.{machineRead, moveRead, Stepped}
-use Rattle.sheet.proofs.Judging.{valid-small}
+use Rattle.sheet.specs.Held.{fine, judgedOf, ownFaults, Held}
+use Rattle.sheet.specs.Sent.{keyOf}
+use Rattle.sheet.specs.Scan.{machineRead, moveRead, repeated, Stepped}
+use Rattle.sheet.proofs.Judging.{passed-small}
 use Rattle.sheet.proofs.Records.{whole-starts, whole-within, body-part, part-length}
-use Rattle.sheet.proofs.Fits.{machine-passes, move-passes}
+use Rattle.sheet.proofs.Fits.{machine-passes, parts}
 
 -- what a step answers, by what judging the record finds
 module _ (fs : List Fault) (at : ℕ) {j : Judged} (found : judgedOf j at ≡ unless fs fine) where
@@ -38,16 +42,31 @@ module _ (fs : List Fault) (at : ℕ) {j : Judged} (found : judgedOf j at ≡ un
   clear : j ≡ Fine → Clear fs
   clear e = given-clear fs fine (sym found ∙ ap (λ x. judgedOf x at) e)
 
-module _ (d : Parsed) (at next : ℕ) (body : List ℕ) {j : Judged} (long : next ≡ at + 4 + length body) where
-  pub step-machine : {a b : ℕ} → judgedOf j at ≡ unless (machineFaults (d .model) at body) fine → j ≡ Fine
-      → a ≡ byte body 0 → b ≡ byte body 1
-      → Stepped (unless (machineFaults (d .model) at body) (given (more next (machineRead d (byte body 0) (byte body 1)))))
+-- a move's causes are its own, then that of an earlier move's command
+own-first : (m : Model) (at : ℕ) (body : List ℕ) {A : Type 0} (r : Reply A)
+    → unless (moveFaults m at body) r ≡ unless (ownFaults m at body) (unless (repeated m at (moveOf body)) r)
+unfolding unless moveFaults ownFaults badCommand
+own-first m at body r = by-cases (eqb (moveOf body .command) 0) (λ t. rw t) (λ f. rw f)
+
+own-fits : (m : Model) (at : ℕ) (body : List ℕ) → Clear (ownFaults m at body)
+    → (moveCount m < 250) × (length body ≤ 20) × (badMove (m .modes) (m .live) (moveOf body) ≡ false)
+unfolding ownFaults wrongMoveLength
+own-fits m at body c =
+    let a : leb 250 (moveCount m) ≡ false = search parts in
+    let b : ltb 20 (length body) ≡ false = search parts in
+    (leb-false _ _ a, ltb-false _ _ b, c .1 .1 .0)
+
+module _ (d : Parsed) (at : ℕ) (body : List ℕ) {j : Judged} where
+  pub step-machine : {a b next : ℕ} → judgedOf j at ≡ unless (machineFaults (d .model) at body) fine → j ≡ Fine
+      → a ≡ byte body 0 → b ≡ byte body 1 → next ≡ at + 4 + length body
+      → Stepped (unless (machineFaults (d .model) at body)
+      (given (more (at + 4 + length body) (machineRead d (byte body 0) (byte body 1)))))
       d (moveOf body) at (NewMachine a b next)
-  step-machine found e p q =
+  step-machine {a} {b} {next} found e p q n =
       let ok = clear (machineFaults (d .model) at body) at found e in
       let told = machine-passes (d .model) at body ok in
       record {
-        leads = ap₂ (λ x y. given (more next (machineRead d x y))) p q ∙ sym (unless-clear _ _ ok);
+        leads = rw (p, q, n) (sym (unless-clear _ _ ok));
         fits = record {
           room = told .room;
           few = omega (arith, p, told .valid .few-modes);
@@ -56,53 +75,61 @@ module _ (d : Parsed) (at next : ℕ) (body : List ℕ) {j : Judged} (long : nex
         };
       }
 
-  pub step-move : {machines moves key : ℕ} {tops live keys highest : List ℕ}
-      → Held (d .model) machines moves tops live keys highest
-      → judgedOf j at ≡ unless (moveFaults (d .model) at body) fine → j ≡ Fine → byte body 3 < 256
-      → key ≡ keyOf (moveOf body)
-      → Stepped (unless (moveFaults (d .model) at body) (given (more next (moveRead d (at + 4) (moveOf body)))))
-      d (moveOf body) at (NewMove (at + 4) key next)
-  step-move h found e last k =
-      let ok = clear (moveFaults (d .model) at body) at found e in
-      let told = move-passes (d .model) at body ok in
-      record {
-        leads = sym (unless-clear _ _ ok);
-        fits = record {
-          room = told .room;
-          small = valid-small (d .model) body h (told .valid) last;
-          place = refl;
-          key-is = k;
-          near = omega (arith, told .short);
-        };
-      }
+  module _ (found : judgedOf j at ≡ unless (ownFaults (d .model) at body) fine) where
+    pub step-move : {key next : ℕ} {counts : Counts} {tops live : List ℕ} → Held (d .model) counts tops live
+        → j ≡ Fine → byte body 3 < 256 → key ≡ keyOf (moveOf body) → next ≡ at + 4 + length body
+        → Stepped (unless (moveFaults (d .model) at body)
+        (given (more (at + 4 + length body) (moveRead d (at + 4) (moveOf body)))))
+        d (moveOf body) at (NewMove (at + 4) key next)
+    step-move h e last k n =
+        let ok = clear (ownFaults (d .model) at body) at found e in
+        let told = own-fits (d .model) at body ok in
+        record {
+          leads = rw n (sym (own-first (d .model) at body _ ∙ unless-clear _ _ ok));
+          fits = record {
+            room = told .0;
+            small = passed-small (d .model) body h (told .2) last;
+            place = refl;
+            key-is = k;
+            near = omega (arith, told .1);
+          };
+        }
 
-module _ (d : Parsed) (at next size : ℕ) (body : List ℕ) {j : Judged}
-    (found : judgedOf j at ≡ unless (endFaults (d .model) at body) fine) (e : j ≡ Fine) where
+    pub step-bad-move : (turn : Reply Turn) {cause : Cause} → j ≡ Faulty cause
+        → Stepped (unless (moveFaults (d .model) at body) turn) d (moveOf body) at (Refused cause at)
+    step-bad-move turn e =
+        rw (own-first (d .model) at body turn) (step-refused (ownFaults (d .model) at body) at found _ d (moveOf body) e)
+
+module _ (d : Parsed) (at size : ℕ) (body : List ℕ) {j : Judged} {next : ℕ}
+    (found : judgedOf j at ≡ unless (endFaults (d .model) at body) fine) (e : j ≡ Fine)
+    (n : next ≡ at + 4 + length body) where
   pub step-trailing : next < size
-      → Stepped (unless (endFaults (d .model) at body) (unless (fault 3 next (ltb next size) ∷ []) (given (ended d))))
+      → Stepped (unless (endFaults (d .model) at body)
+      (unless (fault 3 (at + 4 + length body) (ltb (at + 4 + length body) size) ∷ []) (given (ended d))))
       d (moveOf body) at (Refused TrailingBytes next)
   step-trailing h =
-      record {
+      rw (← n) (record {
         leads =
             sym (unless-clear _ _ (clear (endFaults (d .model) at body) at found e)
             ∙ unless-first (fault 3 next (ltb next size)) [] (given (ended d)) (lt-ltb next size h));
         fits = tt;
-      }
+      })
 
   pub step-end : size ≤ next
-      → Stepped (unless (endFaults (d .model) at body) (unless (fault 3 next (ltb next size) ∷ []) (given (ended d))))
+      → Stepped (unless (endFaults (d .model) at body)
+      (unless (fault 3 (at + 4 + length body) (ltb (at + 4 + length body) size) ∷ []) (given (ended d))))
       d (moveOf body) at End
   step-end h =
-      record {
+      rw (← n) (record {
         leads =
             sym (unless-clear _ _ (clear (endFaults (d .model) at body) at found e)
             ∙ unless-clear (fault 3 next (ltb next size) ∷ []) (given (ended d)) (le-ltb next size h, tt));
         fits = tt;
-      }
+      })
 
 -- the next record begins behind the body
 pub next-is : (s : List ℕ) (at : ℕ) {r : Record} {kind start len : ℕ} {body : List ℕ}
-    → r ≡ recordAt s at → r ≡ Whole kind start len → body ≡ bodyAt s at → start + len ≡ at + 4 + length body
+    → r ≡ recordAt s at → r ≡ Whole kind start len → body ≡ bodyAt s at → at + 4 + length body ≡ start + len
 next-is s at {r} {kind} {start} {len} {body} e w b =
     let long : length body ≡ len =
     ap length (b ∙ sym (body-part s at e w)) ∙ part-length s start len (whole-within s at e w) in
@@ -121,26 +148,27 @@ module _ (s : List ℕ) (at : ℕ) (d : Parsed) {r : Record} {kind start len : �
 
   pub step-by-machine : {x : Step} → kind ≡ 1
       → Stepped (unless (machineFaults (d .model) at body)
-      (given (more (start + len) (machineRead d (byte body 0) (byte body 1)))))
+      (given (more (at + 4 + length body) (machineRead d (byte body 0) (byte body 1)))))
       d (moveOf body) at x
       → Stepped (turnOf s at d (recordAt s at)) d (moveOf (bodyAt s at)) at x
   unfolding faultsOf extended
-  step-by-machine k t = rw (turn-is, ← b, k) t
+  step-by-machine k t = rw (turn-is, ← b, k, ← next-is s at e w b) t
 
   pub step-by-move : {x : Step} → kind ≡ 2
-      → Stepped (unless (moveFaults (d .model) at body) (given (more (start + len) (moveRead d (at + 4) (moveOf body)))))
+      → Stepped (unless (moveFaults (d .model) at body)
+      (given (more (at + 4 + length body) (moveRead d (at + 4) (moveOf body)))))
       d (moveOf body) at x
       → Stepped (turnOf s at d (recordAt s at)) d (moveOf (bodyAt s at)) at x
   unfolding faultsOf extended
-  step-by-move k t = rw (turn-is, ← b, k) (rw (sym (whole-starts s at e w)) at t)
+  step-by-move k t = rw (turn-is, ← b, k, ← next-is s at e w b, whole-starts s at e w) t
 
   pub step-by-end : {x : Step} → kind ≡ 3
       → Stepped (unless (endFaults (d .model) at body)
-      (unless (fault 3 (start + len) (ltb (start + len) (length s)) ∷ []) (given (ended d))))
+      (unless (fault 3 (at + 4 + length body) (ltb (at + 4 + length body) (length s)) ∷ []) (given (ended d))))
       d (moveOf body) at x
       → Stepped (turnOf s at d (recordAt s at)) d (moveOf (bodyAt s at)) at x
   unfolding faultsOf
-  step-by-end k t = rw (turn-is, ← b, k) t
+  step-by-end k t = rw (turn-is, ← b, k, ← next-is s at e w b) t
 
   pub step-unknown : (v : Move) → (kind ≡ 1 → ⊥) → (kind ≡ 2 → ⊥) → (kind ≡ 3 → ⊥)
       → Stepped (turnOf s at d (recordAt s at)) d v at (Refused WrongKind at)

@@ -1,18 +1,19 @@
--- What judging and scanning keep of the records read so far: counts, arrays with zeros behind what there is, a key
--- for each move in place of the move; and how they judge by that.
-use Prim.Native.Nat.{ℕ, _+_, _-_, _*_, _/_, _%_, _^_, _≤_, _<_}
+-- What judging keeps of the records read so far, counts and arrays with zeros behind what there is, and how it judges by that.
+use Prim.Native.Nat.{ℕ, _-_, _^_, _≤_}
 use mathlib.Core.Path.{_≡_}
 use mathlib.Core.Bool.{Bool, false, not, _&&_, _||_}
-use mathlib.Core.List.{List, map, List·Memᴰ}
+use mathlib.Core.List.{List, [], _∷_, map}
 use lib.ListN.{length, getD}
 use lib.Dec.{eqb, ltb, leb}
 use Rattle.common.specs.Bits.{bit, beyond}
 use Rattle.common.specs.Lists.{any, pad, upTo}
-use Rattle.common.specs.Reply.{Reply, given, refused}
+use Rattle.common.specs.Reply.{Reply, given, refused, Fault, fault}
+use Rattle.sheet.specs.declared.judge.Counts.{Counts}
 use Rattle.sheet.specs.declared.judge.Judged.{Judged}
 use Rattle.sheet.specs.declared.judge.Judged.the-variants.{Fine, Faulty}
 use Rattle.sheet.specs.Refusal.{numberOf}
-use Rattle.sheet.specs.Model.{Move, Model, machineCount, moveCount, guardAt}
+use Rattle.sheet.specs.Model.{Move, Model, machineCount, moveCount, guardAt, moveOf}
+use Rattle.sheet.specs.Faults.{wrongMoveLength, badMove, badGuards}
 
 -- nothing found
 abbrev pub fine : Reply Unit
@@ -44,31 +45,28 @@ wrongGuard tops v n =
 unfoldable pub wrongGuards : List ℕ → Move → Bool
 wrongGuards tops v = any (wrongGuard tops v) (upTo (length (v .guards)))
 
--- a move's machine, from mode and command as one two-byte number
-unfoldable pub keyOf : Move → ℕ
-keyOf v = (2048 * v .machine + 256 * v .from + v .command) % 65536
+-- the causes of a move but for a command that an earlier move has
+unfoldable pub ownFaults : Model → ℕ → List ℕ → List Fault
+ownFaults m at body =
+    fault 2 at (wrongMoveLength (length body))
+    ∷ fault 4 at (eqb (machineCount m) 0 || leb 250 (moveCount m))
+    ∷ fault 6 at (badMove (m .modes) (m .live) (moveOf body))
+    ∷ fault 7 at (badGuards (m .modes) (moveOf body))
+    ∷ fault 8 at (eqb (moveOf body .command) 0)
+    ∷ []
 
--- a move whose key tells it
-pub record Small (v : Move) : Type 0 where
-  pub machine : v .machine < 32
-  pub from : v .from < 8
-  pub command : v .command < 256
+-- the counts of a model
+pub record Counted (m : Model) (counts : Counts) : Type 0 where
+  pub machines-are : machineCount m ≡ counts .machines
+  pub moves-are : moveCount m ≡ counts .moves
 
--- the highest commands, by machine and from mode, are not below those of some keys
-abbrev pub Below : List ℕ → List ℕ → Type 0
-Below highest keys = (k : ℕ) → List·Memᴰ k keys → k % 256 ≤ getD highest (k / 256) 0
-
--- the counts and arrays that stand for a model
-pub record Held (m : Model) (machines moves : ℕ) (tops live keys highest : List ℕ) : Type 0 where
-  pub machines-are : machineCount m ≡ machines
-  pub moves-are : moveCount m ≡ moves
-  pub live-are : length (m .live) ≡ machines
+-- the counts and arrays that stand for the machines of a model
+pub record Held (m : Model) (counts : Counts) (tops live : List ℕ) : Type 0 where
+  pub counted : Counted m counts
+  pub live-are : length (m .live) ≡ counts .machines
   pub tops-in : tops ≡ pad 256 (map topOf (m .modes))
   pub live-in : live ≡ pad 32 (m .live)
-  pub keys-in : keys ≡ pad 250 (map keyOf (m .moves))
-  pub keys-below : Below highest (map keyOf (m .moves))
-  pub few-machines : machines ≤ 32
-  pub few-moves : moves ≤ 250
+  pub few-machines : counts .machines ≤ 32
+  pub few-moves : counts .moves ≤ 250
   pub few-modes : (i : ℕ) → getD (m .modes) i 0 ≤ 8
   pub live-within : (i : ℕ) → beyond (getD (m .modes) i 0) (getD (m .live) i 0) ≡ false
-  pub small-moves : (v : Move) → List·Memᴰ v (m .moves) → Small v

@@ -7,5 +7,6 @@ pub mod Parse
 pub mod Record
 pub mod Refusal
 pub mod Scan
+pub mod Sent
 pub mod Valid
 pub mod Write

@@ -2,15 +2,17 @@
 use Prim.Native.Nat.{ℕ, _+_, _≤_, _<_}
 use mathlib.Core.Path.{_≡_}
 use mathlib.Core.Bool.{false}
-use mathlib.Core.List.{[], _∷_, _++_}
+use mathlib.Core.List.{List, [], _∷_, _++_}
 use Rattle.common.specs.Bits.{beyond}
-use Rattle.common.specs.Reply.{Reply, given, refused}
+use Rattle.common.specs.Lists.{any}
+use Rattle.common.specs.Reply.{Reply, given, refused, Fault, fault, unless}
 use Rattle.sheet.specs.declared.scan.Step.{Step}
 use Rattle.sheet.specs.declared.scan.Step.the-variants.{NewMachine, NewMove, End, Refused}
 use Rattle.sheet.specs.Refusal.{numberOf}
 use Rattle.sheet.specs.Model.{Move, Model, machineCount, moveCount, withMachine, withMove}
 use Rattle.sheet.specs.Parse.{Parsed, Turn, more, ended}
-use Rattle.sheet.specs.Held.{keyOf, Small}
+use Rattle.sheet.specs.Faults.{sameMove}
+use Rattle.sheet.specs.Sent.{keyOf, Small}
 
 abbrev pub machineRead : Parsed → ℕ → ℕ → Parsed
 machineRead d modes live = record { model = withMachine (d .model) modes live; bodies = d .bodies }
@@ -18,12 +20,16 @@ machineRead d modes live = record { model = withMachine (d .model) modes live; b
 abbrev pub moveRead : Parsed → ℕ → Move → Parsed
 moveRead d start v = record { model = withMove (d .model) v; bodies = d .bodies ++ (start ∷ []) }
 
--- where a step leads after what has been read, v being the move that the record would write
-abbrev pub turnBy : Parsed → Move → Step → Reply Turn
-turnBy d v (NewMachine modes live next) = given (more next (machineRead d modes live))
-turnBy d v (NewMove start key next) = given (more next (moveRead d start v))
-turnBy d v End = given (ended d)
-turnBy d v (Refused cause place) = refused (numberOf cause) place
+-- 8 for a command that an earlier move has
+abbrev pub repeated : Model → ℕ → Move → List Fault
+repeated m at v = fault 8 at (any (sameMove v) (m .moves)) ∷ []
+
+-- where a step over the record at a place leads after what has been read, v being the move that the record would write
+abbrev pub stepTurn : Parsed → Move → ℕ → Step → Reply Turn
+stepTurn d v at (NewMachine modes live next) = given (more next (machineRead d modes live))
+stepTurn d v at (NewMove start key next) = unless (repeated (d .model) at v) (given (more next (moveRead d start v)))
+stepTurn d v at End = given (ended d)
+stepTurn d v at (Refused cause place) = refused (numberOf cause) place
 
 -- the arrays have room for a new machine or move, and the next record is not far
 pub record MachineFits (m : Model) (at modes live next : ℕ) : Type 0 where
@@ -47,5 +53,5 @@ StepFits m v at (Refused cause place) = Unit
 
 -- what a step over the record at a place answers
 pub record Stepped (turn : Reply Turn) (d : Parsed) (v : Move) (at : ℕ) (r : Step) : Type 0 where
-  pub leads : turnBy d v r ≡ turn
+  pub leads : stepTurn d v at r ≡ turn
   pub fits : StepFits (d .model) v at r

@@ -8,23 +8,27 @@ use crate::record::byte_at;
 use crate::record::wide;
 use crate::refusal::Cause;
 ghost use mathlib.Core.Path.{_≡_};
-ghost use Prim.Native.Nat.{ℕ, _+_, _*_, _/_, _%_, _≤_, _<_};
-ghost use lib.ListN.{length, take};
-ghost use lib.Dec.{eqb, ltb, leb};
+ghost use Prim.Native.Nat.{ℕ, _+_, _*_, _≤_, _<_};
+ghost use lib.ListN.{length};
+ghost use lib.Dec.{ltb, leb};
 ghost use mathlib.Core.Bool.{false, _&&_};
-ghost use Rattle.common.specs.Lists.{any};
 ghost use Rattle.common.specs.Reply.{unless};
 ghost use Rattle.sheet.specs.Record.{byte};
-ghost use Rattle.sheet.specs.Model.{Model, machineCount, moveCount, moveOf};
-ghost use Rattle.sheet.specs.Faults.{wrongMoveLength, badMachine};
-ghost use Rattle.sheet.specs.Faults.{machineFaults, moveFaults, endFaults};
+ghost use Rattle.sheet.specs.Model.{Model, machineCount, moveOf};
+ghost use Rattle.sheet.specs.Faults.{wrongMoveLength, badMachine, machineFaults, endFaults};
 ghost use Rattle.sheet.specs.Held.{fine, judgedOf, topOf, deadMove, wrongGuard, wrongGuards};
-ghost use Rattle.sheet.specs.Held.{keyOf, Below, Held};
+ghost use Rattle.sheet.specs.Held.{ownFaults, Counted, Held};
 
 // What judging a record finds.
 pub enum Judged {
     Fine,
     Faulty(Cause),
+}
+
+// Machines and moves read so far.
+pub struct Counts {
+    pub machines: usize,
+    pub moves: usize,
 }
 
 // 2 for a move.
@@ -128,69 +132,18 @@ pub fn first_modes(n: u8) -> u8
     ((1usize << wide(n)) - 1) as u8
 }
 
-// A move's machine, from mode and command as one number.
-pub fn key_of(body: &[u8]) -> u16
-    requires { ⌜ 4 ≤ length (now body) ⌝ }
-    ensures { λ r. ⌜ r ≡ keyOf (moveOf (now (body .entry))) ⌝ }
-{
-    let machine = wide(body[0]);
-    let from = wide(body[1]);
-    let command = wide(body[3]);
-    ((2048 * machine + 256 * from + command) % 65536) as u16
-}
-
-// The machine and from mode of a key.
-pub fn mode_of(key: u16) -> usize
-    ensures { λ r. ⌜ (r ≡ key / 256) × (r < 256) ⌝ }
-{
-    (key / 256) as usize
-}
-
-// The command of a key.
-pub fn command_of(key: u16) -> u8
-    ensures { λ r. ⌜ r ≡ key % 256 ⌝ }
-{
-    (key % 256) as u8
-}
-
-// Whether a key is among the first of some keys.
-fn among(keys: &[u16], moves: usize, key: u16) -> bool
-    requires { ⌜ (moves ≤ length (now keys)) × (moves ≤ 250) ⌝ }
-    ensures { λ r. ⌜ r ≡ any (eqb key) (take moves (now (keys .entry))) ⌝ }
-{
-    let mut hits: u16 = 0;
-    let mut i: usize = 0;
-    while i < moves {
-        hits += (key == keys[i]) as u16;
-        i += 1;
-    }
-    0 < hits
-}
-
-// The same, given the highest command of each machine and mode among them: a key with a higher one is new.
-fn repeated(keys: &[u16], highest: &[u8], moves: usize, key: u16) -> bool
-    requires { ⌜ (moves ≤ length (now keys)) × (moves ≤ 250) ⌝ }
-    ensures { λ r. ⌜ (Below (now (highest .entry)) (take moves (now (keys .entry)))
-        → r ≡ any (eqb key) (take moves (now (keys .entry)))) ⌝ }
-{
-    if byte_at(highest, mode_of(key)) < command_of(key) {
-        return false;
-    }
-    among(keys, moves, key)
-}
-
-// A machine record, after so many machines and moves.
-pub fn judge_machine(body: &[u8], machines: usize, moves: usize) -> Judged
-    ensures { λ r. ⌜ ((m : Model) (at : ℕ) → machineCount m ≡ machines → moveCount m ≡ moves
+// A machine record.
+pub fn judge_machine(body: &[u8], counts: Counts) -> Judged
+    ensures { λ r. ⌜ ((m : Model) (at : ℕ) → Counted m counts
         → judgedOf r at ≡ unless (machineFaults m at (now (body .entry))) fine) ⌝ }
 {
     if body.len() != 2 {
         return Judged::Faulty(Cause::WrongKind);
     }
-    if 0 < moves {
+    if 0 < counts.moves {
         return Judged::Faulty(Cause::Misplaced);
     }
-    if Sheet::MACHINES <= machines {
+    if Sheet::MACHINES <= counts.machines {
         return Judged::Faulty(Cause::Misplaced);
     }
     if bad_machine(body[0], body[1]) {
@@ -199,27 +152,17 @@ pub fn judge_machine(body: &[u8], machines: usize, moves: usize) -> Judged
     Judged::Fine
 }
 
-// A move record of a right length, with its key, after the machines and moves that are held.
-pub fn judge_move(
-    body: &[u8],
-    key: u16,
-    machines: usize,
-    moves: usize,
-    tops: &[u8],
-    live: &[u8],
-    keys: &[u16],
-    highest: &[u8],
-) -> Judged
-    requires { ⌜ (4 ≤ length (now body)) × (length (now keys) ≡ 250) ⌝ }
-    ensures { λ r. ⌜ ((m : Model) (at : ℕ)
-        → Held m machines moves (now (tops .entry)) (now (live .entry)) (now (keys .entry)) (now (highest .entry))
-        → wrongMoveLength (length (now (body .entry))) ≡ false → key ≡ keyOf (moveOf (now (body .entry)))
-        → judgedOf r at ≡ unless (moveFaults m at (now (body .entry))) fine) ⌝ }
+// A move record of a right length, by the machines so far; whether an earlier move has its command is not asked here.
+pub fn judge_move(body: &[u8], counts: Counts, tops: &[u8], live: &[u8]) -> Judged
+    requires { ⌜ 4 ≤ length (now body) ⌝ }
+    ensures { λ r. ⌜ ((m : Model) (at : ℕ) → Held m counts (now (tops .entry)) (now (live .entry))
+        → wrongMoveLength (length (now (body .entry))) ≡ false
+        → judgedOf r at ≡ unless (ownFaults m at (now (body .entry))) fine) ⌝ }
 {
-    if machines == 0 {
+    if counts.machines == 0 {
         return Judged::Faulty(Cause::Misplaced);
     }
-    if Sheet::MOVES <= moves {
+    if Sheet::MOVES <= counts.moves {
         return Judged::Faulty(Cause::Misplaced);
     }
     if bad_move(body, live) {
@@ -229,9 +172,6 @@ pub fn judge_move(
         return Judged::Faulty(Cause::BadGuard);
     }
     if body[3] == 0 {
-        return Judged::Faulty(Cause::BadCommand);
-    }
-    if repeated(keys, highest, moves, key) {
         return Judged::Faulty(Cause::BadCommand);
     }
     Judged::Fine

@@ -7,3 +7,4 @@ pub mod reader;
 pub mod record;
 pub mod refusal;
 pub mod scan;
+mod sent;

@@ -1,6 +1,6 @@
-use native.Mathlib.Omega.{arith}
 use borrow.Author.Needs.{needs}
-use Rattle.sheet.proofs.Records.{whole-within}
+use native.Mathlib.Omega.{arith}
+use Rattle.sheet.proofs.Records.{whole-within, body-whole}
 use Rattle.sheet.proofs.Steps.{next-is, step-by-machine, step-by-move, step-by-end, step-unknown, step-cut}
 use Rattle.sheet.proofs.scan.record_step.Statement.{statement}
 use Rattle.sheet.proofs.scan.record_step.Tie as tie
@@ -17,52 +17,38 @@ enum-told c = search needs
 returns : tie.Need-returns
 returns c = λ d h. step-cut _ _ d _ (c .before .before .record-at .ensures) (c .enum-told .given .1)
 
-body-requires : tie.Need-body-requires
-body-requires c κs = search needs
+add-end : tie.Need-add-end
+add-end c = omega (arith, whole-within _ _ (c .before .before .before .record-at .ensures) (c .before .kind .given .1))
 
-add-next : tie.Need-add-next
-add-next c =
-    omega
-    (arith, whole-within _ _ (c .before .before .before .before .record-at .ensures) (c .before .before .kind .given .1))
+sub-body : tie.Need-sub-body
+sub-body c = search needs
+
+part-body-start : tie.Need-part-body-start
+part-body-start c = search needs
+
+part-body-end : tie.Need-part-body-end
+part-body-end c = whole-within _ _ (c .before .before .before .record-at .ensures) (c .before .kind .given .1)
 
 machine-step-requires : tie.Need-machine-step-requires
-machine-step-requires c κs =
-    next-is _ _ (c .before .before .before .before .before .record-at .ensures) (c .before .before .before .kind .given .1)
-    (c .before .body .ensures)
+machine-step-requires c κs = omega (arith, next-is _ _ (c .before .before .before .before .before .record-at .ensures) (c .before .before .before .kind .given .1) (body-whole _ _ (c .before .before .before .before .before .record-at .ensures) (c .before .before .before .kind .given .1)), whole-within _ _ (c .before .before .before .before .before .record-at .ensures) (c .before .before .before .kind .given .1))
 
 move-step-requires : tie.Need-move-step-requires
-move-step-requires c κs = (
-  next-is _ _ (c .before .before .before .before .before .record-at .ensures) (c .before .before .before .kind .given .1)
-      (c .before .body .ensures),
-  c .before .before .before .before .before .before .before .before .before .before .before .pre,
-)
+move-step-requires c κs = omega (arith, next-is _ _ (c .before .before .before .before .before .record-at .ensures) (c .before .before .before .kind .given .1) (body-whole _ _ (c .before .before .before .before .before .record-at .ensures) (c .before .before .before .kind .given .1)), whole-within _ _ (c .before .before .before .before .before .record-at .ensures) (c .before .before .before .kind .given .1))
 
 end-step-requires : tie.Need-end-step-requires
-end-step-requires c κs = search needs
+end-step-requires c κs = omega (arith, next-is _ _ (c .before .before .before .before .before .record-at .ensures) (c .before .before .before .kind .given .1) (body-whole _ _ (c .before .before .before .before .before .record-at .ensures) (c .before .before .before .kind .given .1)), whole-within _ _ (c .before .before .before .before .before .record-at .ensures) (c .before .before .before .kind .given .1))
 
 returns-2 : tie.Need-returns-2
-returns-2 c =
-    λ d h. step-by-machine _ _ d (c .before .before .before .before .before .before .record-at .ensures)
-    (c .before .before .before .before .kind .given .1) (c .before .before .body .ensures) (c .before .match2 .keys1)
-    (c .machine-step .ensures d (h .machines-are) (h .moves-are))
+returns-2 c = λ d h. step-by-machine _ _ d (c .before .before .before .before .before .before .record-at .ensures) (c .before .before .before .before .kind .given .1) (body-whole _ _ (c .before .before .before .before .before .before .record-at .ensures) (c .before .before .before .before .kind .given .1)) (c .before .match2 .keys1) (c .machine-step .ensures d (h .counted))
 
 returns-3 : tie.Need-returns-3
-returns-3 c =
-    λ d h. step-by-move _ _ d (c .before .before .before .before .before .before .record-at .ensures)
-    (c .before .before .before .before .kind .given .1) (c .before .before .body .ensures) (c .before .match2 .keys2)
-    (c .move-step .ensures d h)
+returns-3 c = λ d h. step-by-move _ _ d (c .before .before .before .before .before .before .record-at .ensures) (c .before .before .before .before .kind .given .1) (body-whole _ _ (c .before .before .before .before .before .before .record-at .ensures) (c .before .before .before .before .kind .given .1)) (c .before .match2 .keys2) (c .move-step .ensures d h)
 
 returns-4 : tie.Need-returns-4
-returns-4 c =
-    λ d h. step-by-end _ _ d (c .before .before .before .before .before .before .record-at .ensures)
-    (c .before .before .before .before .kind .given .1) (c .before .before .body .ensures) (c .before .match2 .keys3)
-    (c .end-step .ensures d (h .machines-are))
+returns-4 c = λ d h. step-by-end _ _ d (c .before .before .before .before .before .before .record-at .ensures) (c .before .before .before .before .kind .given .1) (body-whole _ _ (c .before .before .before .before .before .before .record-at .ensures) (c .before .before .before .before .kind .given .1)) (c .before .match2 .keys3) (c .end-step .ensures d (h .counted .machines-are))
 
 returns-5 : tie.Need-returns-5
-returns-5 c =
-    λ d h. step-unknown _ _ d (c .before .before .before .before .before .record-at .ensures)
-    (c .before .before .before .kind .given .1) (c .before .body .ensures) _ (c .match2 .rest .0 .0 .1)
-    (c .match2 .rest .0 .1) (c .match2 .rest .1)
+returns-5 c = λ d h. step-unknown _ _ d (c .before .before .before .before .before .record-at .ensures) (c .before .before .before .kind .given .1) (body-whole _ _ (c .before .before .before .before .before .record-at .ensures) (c .before .before .before .kind .given .1)) _ (c .match2 .rest .0 .0 .1) (c .match2 .rest .0 .1) (c .match2 .rest .1)
 
 pub record-step-spec : {M : Type 1} → statement M
 record-step-spec =
@@ -72,8 +58,10 @@ record-step-spec =
     enum-known-kind
     enum-told
     returns
-    body-requires
-    add-next
+    add-end
+    sub-body
+    part-body-start
+    part-body-end
     machine-step-requires
     move-step-requires
     end-step-requires

@@ -1,9 +1,9 @@
 use native.Mathlib.Omega.{arith}
 use borrow.Author.Needs.{needs}
-use Rattle.sheet.specs.Held.{keyOf}
+use Rattle.sheet.specs.Sent.{keyOf}
 use Rattle.sheet.specs.Model.{moveOf}
-use Rattle.sheet.proofs.judge.key_of.Statement.{statement}
-use Rattle.sheet.proofs.judge.key_of.Tie as tie
+use Rattle.sheet.proofs.sent.key_of.Statement.{statement}
+use Rattle.sheet.proofs.sent.key_of.Tie as tie
 
 shared-slice-read-wide : tie.Need-shared-slice-read-wide
 shared-slice-read-wide c = search needs
