@@ -19,9 +19,9 @@ use Rattle.sheet.specs.declared.refusal.Verdict.the-variants.{Refused}
 use Rattle.sheet.specs.Refusal.{numberOf}
 use Rattle.sheet.specs.Record.{byte, bodyAt}
 use Rattle.sheet.specs.Model.{Model, moveAt, moveOf}
-use Rattle.sheet.specs.Index.{Indexes}
+use Rattle.sheet.specs.Kept.Indexed.{Indexes}
 use Rattle.sheet.proofs.Indexed.{indexes-valid, indexes-moves}
-use Rattle.plan.specs.Outline.{verdictSays}
+use Rattle.plan.specs.Answers.{verdictSays}
 use Rattle.plan.proofs.MoveTurns.{turn-move}
 use Rattle.command.specs.State.{withMode, stateFaults}
 use Rattle.command.specs.Apply.{Answers, Applied, Effect, actingMove, stateBy, appliedBy, effectReply, applyReply, stateAfter}

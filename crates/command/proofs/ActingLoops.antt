@@ -18,7 +18,7 @@ use Rattle.common.proofs.Search.{find-upTo-is, find-upTo-none}
 use Rattle.sheet.specs.declared.index.Sheet.{Sheet}
 use Rattle.sheet.specs.Record.{byte, bodyAt}
 use Rattle.sheet.specs.Model.{Guard, Model, moveOf}
-use Rattle.sheet.specs.Index.{Indexes}
+use Rattle.sheet.specs.Kept.Indexed.{Indexes}
 use Rattle.sheet.proofs.Indexed.{indexes-moves, indexes-body}
 use Rattle.plan.proofs.MoveTurns.{turn-present, turn-move}
 use Rattle.command.specs.State.{modeOf, tagOf}

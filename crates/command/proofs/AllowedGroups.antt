@@ -13,20 +13,20 @@ use lib.Seq.{getD-set-same, getD-set-other}
 use Rattle.common.specs.Bits.{bit}
 use Rattle.common.proofs.Bools.{by-cases, true-false}
 use Rattle.common.proofs.Lists.{all-cong}
-use Rattle.sets.specs.Sets.{alone, less, least}
+use Rattle.sets.specs.Kept.Sets.{alone, less, least}
 use Rattle.sets.proofs.Laws.{bit-none, bit-less, bit-alone, less-from}
 use Rattle.sets.proofs.Members.{least-member, taken-fits}
 use Rattle.sheet.specs.Model.{Model}
 use Rattle.sheet.specs.Valid.{Valid}
 use Rattle.plan.specs.Groups.{Grouping, members, groupCount}
 use Rattle.plan.specs.Modes.{size, modeIn}
-use Rattle.plan.specs.ModeSets.{ModesHeld, MasksOf, MachinesOf, WithinSet}
-use Rattle.plan.specs.Partition.{MemberSets}
+use Rattle.plan.specs.Kept.ModeSets.{ModesHeld, MasksOf, MachinesOf, WithinSet}
+use Rattle.plan.specs.Kept.Partition.{MemberSets}
 use Rattle.plan.specs.Reading.{groupsIn}
 use Rattle.plan.proofs.Modes.{member-below, modeIn-below}
 use Rattle.plan.proofs.WithinModes.{group-machines}
 use Rattle.command.specs.Goal.{Masks, anyMode, allowed}
-use Rattle.command.specs.Question.{Allows, Kept, GroupsOnly, AllowedSet, AllowedSets, weightsIn, sizeIn}
+use Rattle.command.specs.Kept.Question.{Allows, Kept, GroupsOnly, AllowedSet, AllowedSets, weightsIn, sizeIn}
 use Rattle.command.proofs.Placing.{placed-count}
 
 -- the array of a goal: some modes of each machine, and the group modes within them are those that the goal allows

@@ -13,7 +13,7 @@ use Rattle.sheet.specs.Model.{Model, moveAt}
 use Rattle.sheet.specs.Valid.{Valid}
 use Rattle.plan.specs.Groups.{groupCount}
 use Rattle.plan.specs.Modes.{size}
-use Rattle.plan.specs.Usable.{target}
+use Rattle.plan.specs.Usable.{endMode}
 use Rattle.plan.specs.Table.{Entry}
 use Rattle.plan.specs.Reading.{entryAt}
 use Rattle.plan.specs.Laws.{counted, TableLaws, RouteLaws, CostLaws}
@@ -108,7 +108,7 @@ module _ {m : Model} {plan : List ℕ} {Usable : ℕ → Type 0} {longest cost :
       nearer : distanceTo m plan state′ k (targetOf m plan state masks k) ≤ h .later
       nearer =
           subst (λ p. entryAt m plan k p (targetOf m plan state masks k) .distance ≤ h .later)
-          (sym (moves .there ∙ ap (λ w. target m (groups m plan) k (moveAt m w) (present m plan state k)) e)) (h .nearer)
+          (sym (moves .there ∙ ap (λ w. endMode m (groups m plan) k (moveAt m w) (present m plan state k)) e)) (h .nearer)
 
       before : fall m plan cost state masks scope (suc k)
           ≡ h .later * (1 + outsideCost m plan cost k)

@@ -7,7 +7,7 @@ use borrow.Author.Count.{below-none, below-more}
 use lib.ListN.{length, getD, set, take, drop, replicate, length-set, length-drop}
 use lib.Seq.{getD-set-same, getD-set-other, getD-take, getD-drop, ext-getD, length-take-le, take-all}
 use Rattle.sheet.specs.Record.{part}
-use Rattle.command.specs.Question.{numbersIn, weightsIn, sizeIn, presentIn}
+use Rattle.command.specs.Kept.Question.{numbersIn, weightsIn, sizeIn, presentIn}
 
 -- the first i numbers of a list stand in r from a place on
 pub record Laid (at : ℕ) (xs : List ℕ) (i : ℕ) (r : List ℕ) : Type 0 where

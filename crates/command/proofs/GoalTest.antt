@@ -17,7 +17,7 @@ use Rattle.common.proofs.Search.{find-upTo-is, find-upTo-none, first-some, firs
 use Rattle.common.proofs.Reply.{unless-clear, unless-first, unless-later}
 use Rattle.sheet.specs.Record.{byte}
 use Rattle.sheet.specs.Model.{Model, machineCount}
-use Rattle.plan.specs.Sizes.{CountsOf}
+use Rattle.plan.specs.Kept.Sizes.{CountsOf}
 use Rattle.command.specs.State.{badByte, goalFaults}
 
 pub record GoodBytes (goal modes : List ℕ) (i : ℕ) : Type 0 where

@@ -10,7 +10,7 @@ use Rattle.sheet.specs.Model.{Model, moveAt}
 use Rattle.sheet.specs.Valid.{Valid}
 use Rattle.plan.specs.Groups.{groupCount, movesOf}
 use Rattle.plan.specs.Modes.{size}
-use Rattle.plan.specs.Usable.{leads, target}
+use Rattle.plan.specs.Usable.{leads, endMode}
 use Rattle.plan.specs.Reading.{entryAt}
 use Rattle.plan.specs.Laws.{IsDistance, TableLaws, RouteLaws}
 use Rattle.command.specs.Goal.{Masks, guardMasks, met, allowed}
@@ -42,7 +42,7 @@ module _ (m : Model) (plan : List ℕ) (Usable : ℕ → Type 0) (state : List �
     pub usable : Usable (firstMove m plan state masks k)
     pub leading : leads m (groups m plan) k (moveAt m (firstMove m plan state masks k)) (present m plan state k) ≡ true
     pub nearer :
-        entryAt m plan k (target m (groups m plan) k (moveAt m (firstMove m plan state masks k)) (present m plan state k))
+        entryAt m plan k (endMode m (groups m plan) k (moveAt m (firstMove m plan state masks k)) (present m plan state k))
         (targetOf m plan state masks k) .distance ≤ later
 
 module _ {m : Model} {plan : List ℕ} {Usable : ℕ → Type 0} {longest : ℕ → ℕ} (valid : Valid m)

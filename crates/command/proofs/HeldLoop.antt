@@ -18,7 +18,7 @@ use Rattle.sheet.specs.Valid.{ValidMove}
 use Rattle.plan.specs.Groups.{groupOf}
 use Rattle.plan.specs.Reading.{groupsIn}
 use Rattle.command.specs.State.{modeOf}
-use Rattle.command.specs.Question.{Placed, HeldUp}
+use Rattle.command.specs.Kept.Question.{Placed, HeldUp}
 use Rattle.command.proofs.Placing.{placed-number}
 
 -- need n of a body is on group a, and fails

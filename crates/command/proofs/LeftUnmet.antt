@@ -25,7 +25,7 @@ use Rattle.command.specs.Goal.{Masks, met}
 use Rattle.command.specs.Ancestors.{downTo}
 use Rattle.command.specs.Attainable.{attainFaults}
 use Rattle.command.specs.Next.{done, followBy, fulfil}
-use Rattle.command.specs.Question.{Placed, GroupsOnly, UnmetSet}
+use Rattle.command.specs.Kept.Question.{Placed, GroupsOnly, UnmetSet}
 use Rattle.command.proofs.GroupVerdict.{Top}
 use Rattle.command.proofs.Highest.{downTo-below}
 use Rattle.command.proofs.Picked.{fulfil-all-met, fulfil-highest}

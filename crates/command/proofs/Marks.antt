@@ -17,14 +17,14 @@ use Rattle.common.proofs.Bools.{true-false, bool-ext, and-intro, and-left, and-
 use Rattle.common.proofs.Bools.{or-left, or-right, or-cases}
 use Rattle.common.proofs.Lists.{any-intro, any-some}
 use Rattle.common.proofs.Members.{upTo-mem}
-use Rattle.sets.specs.Sets.{alone, union}
+use Rattle.sets.specs.Kept.Sets.{alone, union}
 use Rattle.sets.proofs.Laws.{bit-none, bit-alone, bit-union}
 use Rattle.sheet.specs.Model.{Model}
 use Rattle.sheet.specs.Valid.{Valid}
 use Rattle.plan.specs.Groups.{groupCount}
 use Rattle.plan.specs.Reading.{groupsIn, wellShaped}
 use Rattle.command.specs.Ancestors.{upstreamIn}
-use Rattle.command.specs.Question.{Names, NamedBy, UpstreamSet, UpstreamOfSome, MarkedFrom}
+use Rattle.command.specs.Kept.Question.{Names, NamedBy, UpstreamSet, UpstreamOfSome, MarkedFrom}
 use Rattle.command.proofs.Shape.{few-groups}
 use Rattle.command.proofs.Naming.{names-count, names-upstream, names-below, upstream-named}
 use Rattle.command.proofs.Upstream.{upstream-below, upstream-count, upstream-trans}

@@ -22,7 +22,7 @@ use Rattle.plan.specs.Reading.{groupsIn}
 use Rattle.command.specs.State.{modeOf, tagOf, untagged}
 use Rattle.command.specs.Goal.{Masks, allows, met}
 use Rattle.command.specs.Attainable.{liveGroup}
-use Rattle.command.specs.Question.{Allows, Placed, FailedSet, UnmetSet}
+use Rattle.command.specs.Kept.Question.{Allows, Placed, FailedSet, UnmetSet}
 use Rattle.command.proofs.Placing.{placed-mode, placed-numbers, placed-group, placed-groups}
 
 -- not each: some not

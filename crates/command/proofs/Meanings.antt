@@ -23,7 +23,7 @@ use Rattle.plan.specs.Modes.{modeIn}
 use Rattle.plan.specs.Meaning.{Belongs}
 use Rattle.plan.specs.Reading.{groupsIn, wellShaped}
 use Rattle.plan.proofs.Words.{members-mean}
-use Rattle.plan.proofs.Steps.{target-below, target-to, target-others}
+use Rattle.plan.proofs.Steps.{endMode-below, endMode-to, endMode-others}
 use Rattle.command.specs.State.{modeOf, untagged}
 use Rattle.command.specs.Goal.{anyMode, goalMasks, guardMasks, met, allowed}
 use Rattle.command.specs.Attainable.{liveGroup}
@@ -113,7 +113,7 @@ moves-right m plan k v p valid shaped member below leading =
     let own = groupsIn m plan in
     let n = groups-length m valid plan shaped in
     record {
-      below = target-below m valid own n k member below leading;
-      mover = target-to m valid own n k member below leading;
-      others = target-others m valid own n k member below leading;
+      below = endMode-below m valid own n k member below leading;
+      mover = endMode-to m valid own n k member below leading;
+      others = endMode-others m valid own n k member below leading;
     }

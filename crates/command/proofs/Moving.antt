@@ -10,7 +10,7 @@ use Rattle.common.proofs.Least.{last-or-below}
 use Rattle.sheet.specs.Model.{Model, modeCount, isLive, moveAt}
 use Rattle.sheet.specs.Valid.{Valid}
 use Rattle.plan.specs.Groups.{movesOf}
-use Rattle.plan.specs.Usable.{leads, landing, target}
+use Rattle.plan.specs.Usable.{leads, landing, endMode}
 use Rattle.plan.specs.Laws.{TableLaws}
 use Rattle.plan.proofs.Named.{moves-below}
 use Rattle.command.specs.State.{withMode}
@@ -40,7 +40,7 @@ module _ (m : Model) (plan state : List ℕ) where
     pub top-unmet : met (groups m plan) masks state top ≡ false
     pub above-met : (a : ℕ) → top < a → a < g → met (groups m plan) masks state a ≡ true
     pub way :
-        ((j ≡ top) × Attains m plan masks j (target m (groups m plan) j (moveAt m v) (present m plan state j)))
+        ((j ≡ top) × Attains m plan masks j (endMode m (groups m plan) j (moveAt m v) (present m plan state j)))
         ⊎ (upstreamIn m plan top j ≡ true)
 
   -- the state that a command leaves: group j is in mode p
@@ -52,7 +52,7 @@ module _ (m : Model) (plan state : List ℕ) where
 
   -- the state that move v of group j leaves
   abbrev pub MovesBy : List ℕ → ℕ → ℕ → Type 0
-  MovesBy state′ j v = Moves state′ j (target m (groups m plan) j (moveAt m v) (present m plan state j))
+  MovesBy state′ j v = Moves state′ j (endMode m (groups m plan) j (moveAt m v) (present m plan state j))
 
 module _ {m : Model} {plan : List ℕ} {Usable : ℕ → Type 0} {state : List ℕ} where
   pub sends-below : {masks : Masks} {g j v : ℕ} → Sends m plan Usable state masks g j v → j < g
@@ -114,7 +114,7 @@ module _ {m : Model} {plan : List ℕ} {Usable : ℕ → Type 0} {longest : ℕ 
         }
 
     pub acting-moves : MovesBy m plan state (withMode state (moveAt m v .machine) (moveAt m v .to)) j v
-    unfolding target
+    unfolding endMode
     acting-moves =
         let own = valid .moves-valid v (moves-below m (groups m plan) j (a .member)) in
         acting-lands (moveAt m v .to) (own .to-present) (own .to-live)

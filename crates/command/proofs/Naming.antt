@@ -15,7 +15,7 @@ use Rattle.plan.specs.Laws.{counted}
 use Rattle.plan.proofs.Named.{named-by}
 use Rattle.plan.proofs.Counted.{counted-moves}
 use Rattle.command.specs.Ancestors.{groupGraph, upstreamIn}
-use Rattle.command.specs.Question.{Names}
+use Rattle.command.specs.Kept.Question.{Names}
 use Rattle.command.proofs.Shape.{move-below}
 use Rattle.command.proofs.Upstream.{groupGraph-names, upstream-chain, upstream-other, named-upstream}
 use Rattle.command.proofs.Upstream.{upstream-below, upstream-trans}

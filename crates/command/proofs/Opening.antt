@@ -28,12 +28,13 @@ use Rattle.sheet.proofs.Indexed.{indexes-body}
 use Rattle.plan.specs.declared.opening.Outline.{Outline}
 use Rattle.plan.specs.Groups.{Grouping, groupOf, groupCount}
 use Rattle.plan.specs.Modes.{size, weight, modeNumber}
-use Rattle.plan.specs.Sizes.{capped, cappedSizes}
-use Rattle.plan.specs.Partition.{cappedWeights, Partitioned}
-use Rattle.plan.specs.ModeSets.{Weighed, Sized, ZeroSets}
+use Rattle.plan.specs.Kept.Sizes.{capped, cappedSizes}
+use Rattle.plan.specs.Kept.Partition.{cappedWeights, Partitioned}
+use Rattle.plan.specs.Kept.ModeSets.{Weighed, Sized, ZeroSets}
 use Rattle.plan.specs.Promised.{SmallGroups}
 use Rattle.plan.specs.Reading.{groupsIn, wellShaped}
-use Rattle.plan.specs.Outline.{verdictSays, shapeReply, outlineReply, Outlined}
+use Rattle.plan.specs.Answers.{verdictSays, shapeReply, outlineReply}
+use Rattle.plan.specs.Kept.Outline.{Outlined}
 use Rattle.plan.proofs.CappedSizes.{capped-small}
 use Rattle.plan.proofs.Counted.{counted-planned}
 use Rattle.plan.proofs.DigitSets.{weight-small}
@@ -43,8 +44,8 @@ use Rattle.plan.proofs.Named.{group-below-count}
 use Rattle.plan.proofs.ShapeTests.{shape-tests}
 use Rattle.command.specs.State.{modes, stateFaults}
 use Rattle.command.specs.Goal.{Masks}
-use Rattle.command.specs.Question.{Allows, Opened, Listed, Placed, Kept, NamedBy, UnmetSet, KeptGoal}
-use Rattle.command.specs.Question.{numbersIn, weightsIn, sizeIn, presentIn}
+use Rattle.command.specs.Kept.Question.{Allows, Opened, Listed, Placed, Kept, NamedBy, UnmetSet, KeptGoal}
+use Rattle.command.specs.Kept.Question.{numbersIn, weightsIn, sizeIn, presentIn}
 use Rattle.command.proofs.Shape.{groups-length, few-groups}
 
 -- what `open` tells of a plan that is accepted

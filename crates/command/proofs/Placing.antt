@@ -14,10 +14,10 @@ use Rattle.common.proofs.Pad.{length-pad}
 use Rattle.sheet.specs.Model.{Model, machineCount, modeCount}
 use Rattle.plan.specs.Groups.{groupOf, groupCount}
 use Rattle.plan.specs.Reading.{groupsIn}
-use Rattle.plan.specs.ModeSets.{ModesHeld}
+use Rattle.plan.specs.Kept.ModeSets.{ModesHeld}
 use Rattle.plan.proofs.NumbersUsed.{gapless-count}
 use Rattle.command.specs.State.{modeOf}
-use Rattle.command.specs.Question.{machinesIn, Placed, Kept, numbersIn, weightsIn}
+use Rattle.command.specs.Kept.Question.{machinesIn, Placed, Kept, numbersIn, weightsIn}
 use Rattle.command.proofs.Shape.{Sound, sound-state, shape-gapless, groups-length, group-below}
 
 module _ {m : Model} {plan state numbers : List ℕ} (p : Placed m plan state numbers) where

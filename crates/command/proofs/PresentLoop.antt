@@ -19,7 +19,7 @@ use Rattle.common.proofs.Pad.{getD-zeros}
 use Rattle.sheet.specs.Model.{Model}
 use Rattle.plan.specs.Groups.{groupOf}
 use Rattle.plan.specs.Modes.{modeNumber}
-use Rattle.plan.specs.ModeSets.{Weighed}
+use Rattle.plan.specs.Kept.ModeSets.{Weighed}
 use Rattle.plan.proofs.Radix.{place, number}
 use Rattle.plan.proofs.ModeDigits.{counts, digits, is-member, weight-place, modeNumber-number, digits-member, digits-outside}
 use Rattle.plan.proofs.Modes.{modeNumber-below}

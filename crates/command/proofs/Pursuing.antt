@@ -11,21 +11,21 @@ use Rattle.common.specs.Bits.{bit}
 use Rattle.common.specs.Lists.{pad}
 use Rattle.common.specs.Reply.{Reply, given, unless}
 use Rattle.common.proofs.Bools.{or-left, or-right, or-cases}
-use Rattle.sets.specs.Sets.{union}
+use Rattle.sets.specs.Kept.Sets.{union}
 use Rattle.sets.proofs.Laws.{bit-union}
 use Rattle.sheet.specs.declared.refusal.Verdict.{Verdict}
 use Rattle.sheet.specs.declared.refusal.Verdict.the-variants.{Accepted}
 use Rattle.sheet.specs.Model.{Model}
 use Rattle.sheet.specs.Valid.{Valid}
 use Rattle.plan.specs.Groups.{groupCount}
-use Rattle.plan.specs.Outline.{verdictSays}
-use Rattle.plan.specs.Partition.{MemberSets}
+use Rattle.plan.specs.Answers.{verdictSays}
+use Rattle.plan.specs.Kept.Partition.{MemberSets}
 use Rattle.plan.specs.Reading.{groupsIn, wellShaped}
 use Rattle.command.specs.Goal.{Masks}
 use Rattle.command.specs.Attainable.{attainFaults}
 use Rattle.command.specs.Next.{Next, followBy, fulfil}
-use Rattle.command.specs.Question.{Allows, Placed, Kept, GroupsOnly, FailedSet, NamedBy, UpstreamOfSome}
-use Rattle.command.specs.Question.{machinesIn, AllowedSets, KeptGoal, numbersIn}
+use Rattle.command.specs.Kept.Question.{Allows, Placed, Kept, GroupsOnly, FailedSet, NamedBy, UpstreamOfSome}
+use Rattle.command.specs.Kept.Question.{machinesIn, AllowedSets, KeptGoal, numbersIn}
 use Rattle.command.proofs.CoverLoop.{above-only}
 use Rattle.command.proofs.GroupVerdict.{Top}
 use Rattle.command.proofs.LeftUnmet.{left-only, highest-left}

@@ -12,11 +12,11 @@ use Rattle.sheet.specs.Model.{Model, moveAt}
 use Rattle.sheet.specs.Valid.{Valid}
 use Rattle.plan.specs.Groups.{groupCount, movesOf, namedOutside}
 use Rattle.plan.specs.Modes.{size, liveMode}
-use Rattle.plan.specs.Usable.{leads, target}
+use Rattle.plan.specs.Usable.{leads, endMode}
 use Rattle.plan.specs.Reading.{groupsIn}
 use Rattle.plan.specs.Laws.{TableLaws, RouteLaws}
 use Rattle.plan.proofs.Named.{moves-below, moves-group}
-use Rattle.plan.proofs.Steps.{target-below}
+use Rattle.plan.proofs.Steps.{endMode-below}
 use Rattle.command.specs.Goal.{Masks, guardMasks}
 use Rattle.command.specs.Attainable.{groups}
 use Rattle.command.specs.Covered.{Attains, Safe}
@@ -37,10 +37,10 @@ module _ {m : Model} {plan : List ℕ} {Usable : ℕ → Type 0} {longest : ℕ 
     -- a usable move leads from a safe mode to a safe one
     pub safe-after : {masks : Masks} (p : ℕ) → p < size m (groups m plan) k
         → leads m (groups m plan) k (moveAt m v) p ≡ true → Safe m plan masks k p
-        → Safe m plan masks k (target m (groups m plan) k (moveAt m v) p)
+        → Safe m plan masks k (endMode m (groups m plan) k (moveAt m v) p)
     safe-after p below leading safe =
         let n = Facts.groups-length m valid plan (tables .shaped) in
-        let there = target-below m valid (groups m plan) n k member below leading in
+        let there = endMode-below m valid (groups m plan) n k member below leading in
         let first = routes .move-connects k p v k-below below member usable leading in
         record {
           attains-from = λ q h c.

@@ -21,7 +21,7 @@ use Rattle.plan.specs.Table.{entry}
 use Rattle.command.specs.State.{modeOf}
 use Rattle.command.specs.Goal.{Masks}
 use Rattle.command.specs.Next.{Next, holdsInside, unfit, prepareBy, followBy}
-use Rattle.command.specs.Question.{machinesIn, Placed, Kept, Listed, AllowedSet, HeldUp, OnlyOutside, numbersIn, entryToward}
+use Rattle.command.specs.Kept.Question.{machinesIn, Placed, Kept, Listed, AllowedSet, HeldUp, OnlyOutside, numbersIn, entryToward}
 use Rattle.command.proofs.Following
 use Rattle.command.proofs.Picked.{fulfilBelow}
 use Rattle.command.proofs.Placing.{placed-count, kept-placed}

@@ -19,9 +19,9 @@ use Rattle.plan.specs.Groups.{groupCount, groupsOf}
 use Rattle.plan.specs.Bytes.{tableAt, planLength}
 use Rattle.plan.specs.Planning.{lengthReply, planReply, bufferAfter, scratchAfter}
 use Rattle.plan.specs.Reading.{boundIn}
-use Rattle.plan.specs.Outline.{boundAt}
-use Rattle.plan.specs.Measured.{measuredOf}
-use Rattle.plan.specs.Making.{plannedOf, toldOf}
+use Rattle.plan.specs.Kept.Outline.{boundAt}
+use Rattle.plan.specs.Answers.{measuredOf}
+use Rattle.plan.specs.Answers.{plannedOf, toldOf}
 use Rattle.plan.proofs.Planned.{planned}
 use Rattle.plan.proofs.Planning.{plan-accepted}
 use Rattle.plan.proofs.RecordTests.{bound-at}

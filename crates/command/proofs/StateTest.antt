@@ -15,7 +15,7 @@ use Rattle.common.proofs.Bools.{or-left, or-right, or-false-intro, not-of-true,
 use Rattle.common.proofs.Search.{find-upTo-is, find-upTo-none, first-some, first-place, first-missing}
 use Rattle.common.proofs.Reply.{unless-clear, unless-first, unless-later}
 use Rattle.sheet.specs.Model.{Model, machineCount, modeCount}
-use Rattle.plan.specs.Sizes.{CountsOf}
+use Rattle.plan.specs.Kept.Sizes.{CountsOf}
 use Rattle.command.specs.State.{modeOf, tagOf, badPair, stateFaults}
 
 pub record GoodPairs (state counts : List ℕ) (i : ℕ) : Type 0 where

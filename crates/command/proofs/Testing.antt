@@ -15,7 +15,7 @@ use Rattle.sheet.specs.declared.refusal.Verdict.the-variants.{Refused}
 use Rattle.sheet.specs.Refusal.{numberOf}
 use Rattle.sheet.specs.Model.{Model}
 use Rattle.sheet.specs.Parse.{parse}
-use Rattle.plan.specs.Outline.{verdictSays, shapeReply, outlineReply}
+use Rattle.plan.specs.Answers.{verdictSays, shapeReply, outlineReply}
 use Rattle.command.specs.State.{stateFaults, goalFaults}
 use Rattle.command.specs.Goal.{goalMasks}
 use Rattle.command.specs.Attainable.{attainFaults}

@@ -14,22 +14,22 @@ use Rattle.common.specs.Reply.{Reply, given}
 use Rattle.common.proofs.Bools.{true-false, false-of-not-true, not-of-true, not-of-false, and-left}
 use Rattle.common.proofs.Lists.{all-at, any-some}
 use Rattle.common.proofs.When.{when-known}
-use Rattle.sets.specs.Sets.{below}
+use Rattle.sets.specs.Kept.Sets.{below}
 use Rattle.sets.proofs.Laws.{bit-none, bit-first}
 use Rattle.sheet.specs.Record.{byte}
 use Rattle.sheet.specs.Model.{Move, Model, moveCount, moveAt, moveOf}
 use Rattle.sheet.specs.Valid.{ValidMove}
 use Rattle.plan.specs.Groups.{groupOf, groupCount, movesOf}
 use Rattle.plan.specs.Modes.{size}
-use Rattle.plan.specs.ModeSets.{ModesHeld, MeetingSet}
+use Rattle.plan.specs.Kept.ModeSets.{ModesHeld, MeetingSet}
 use Rattle.plan.specs.Reading.{groupsIn}
 use Rattle.plan.proofs.Named.{moves-in, moves-mem, guard-at-most}
 use Rattle.command.specs.State.{modeOf}
 use Rattle.command.specs.Goal.{Masks, guardMasks, met}
 use Rattle.command.specs.Next.{Next, command, holdsInside, holdsOutside, prepareBy, followBy}
 use Rattle.command.specs.Method.{HighestUnmet}
-use Rattle.command.specs.Question.{Placed, Kept, Listed, AllowedSet, HeldUp, OnlyOutside}
-use Rattle.command.specs.Question.{machinesIn, numbersIn, weightsIn, sizeIn}
+use Rattle.command.specs.Kept.Question.{Placed, Kept, Listed, AllowedSet, HeldUp, OnlyOutside}
+use Rattle.command.specs.Kept.Question.{machinesIn, numbersIn, weightsIn, sizeIn}
 use Rattle.command.proofs.Following
 use Rattle.command.proofs.Fitness.{ready-test}
 use Rattle.command.proofs.Goals.{needs-allowed, needs-hold, met-holds}

@@ -14,16 +14,16 @@ use Rattle.common.proofs.Bits.{small-beyond}
 use Rattle.common.proofs.Bools.{by-cases, cond-true, cond-false}
 use Rattle.common.proofs.Members.{getD-map-upTo}
 use Rattle.common.proofs.Pad.{getD-pad, pad-nil}
-use Rattle.sets.specs.Sets.{below}
+use Rattle.sets.specs.Kept.Sets.{below}
 use Rattle.sets.proofs.Laws.{bit-first}
 use Rattle.sheet.specs.Record.{byte}
 use Rattle.sheet.specs.Model.{Model, machineCount, modeCount}
 use Rattle.sheet.specs.Valid.{Valid}
-use Rattle.plan.specs.Sizes.{CountsOf}
+use Rattle.plan.specs.Kept.Sizes.{CountsOf}
 use Rattle.plan.proofs.ArrayLoops.{fills-map}
 use Rattle.command.specs.State.{goalFaults}
 use Rattle.command.specs.Goal.{goalMasks}
-use Rattle.command.specs.Question.{Allows}
+use Rattle.command.specs.Kept.Question.{Allows}
 use Rattle.command.proofs.Guards.{full-byte}
 use Rattle.command.proofs.TurnedDown.{goal-passes}
 use Rattle.command.proofs.Wished.{mask-within, mask-past}

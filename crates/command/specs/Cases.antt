@@ -17,7 +17,7 @@ use Rattle.plan.specs.Needs.{names, needs, needGraph}
 use Rattle.plan.specs.Groups.{Grouping, groupCount, members, smallestMember, together, numbered, ready, withNumber, numberedUpto, groupsOf}
 use Rattle.plan.specs.Groups.{movesOf, namesGroup, namedOutside}
 use Rattle.plan.specs.Modes.{size, weight, modeNumber, modeIn, liveMode, shifted}
-use Rattle.plan.specs.Usable.{meets, leads, landing, target, alwaysMet, usable}
+use Rattle.plan.specs.Usable.{meets, leads, landing, endMode, alwaysMet, usable}
 use Rattle.plan.specs.Routes.{usableMoves, moveGraph, routesIn, routesUpto}
 use Rattle.plan.specs.Table.{starts, entryOf, tableOf}
 use Rattle.plan.specs.Bound.{longest, costIn, costsUpto, boundOf, planBound}
@@ -36,7 +36,7 @@ use Rattle.command.specs.Apply.{Applied, acts, actingMove, stateBy, appl
 use Rattle.command.specs.Run.{lend, Call, ask, apply, refusedNext, refusedApply, none, begins, after, afterAll, Run}
 use Rattle.command.specs.Walk.{Line, sent, finished, stopped, obeyReply, turnReply, obey, walkLines}
 use Rattle.command.specs.Examples.{stove, lone, filterAndPan, burnt, nearer, tied, apart, lidAndArm, eights, seventy}
-use Rattle.command.specs.Examples.{parsedIn, modelIn, otherPlan, planWith, planOf, blank}
+use Rattle.command.specs.Examples.{parsedIn, modelIn, otherPlan, changedPlan, planOf, blank}
 
 unfoldable pub costsOf : Model → List ℕ
 costsOf m =
@@ -46,7 +46,7 @@ costsOf m =
 -- a call and its whole answer
 pub data Row : Type 0 where
   -- the groups of a sheet, their costs, the bound and the plan's length
-  plans : (sheet : List ℕ) (groups : Grouping) (costs : List ℕ) (bound length : ℕ) → Row
+  plans : (sheet : List ℕ) (groups : Grouping) (costs : List ℕ) (bound bytes : ℕ) → Row
   -- the distance between two modes of a group
   far : (sheet : List ℕ) (group from to distance : ℕ) → Row
   -- the lines of the walk
@@ -60,9 +60,9 @@ pub data Row : Type 0 where
   runs : (sheet state goal : List ℕ) (buffer : ℕ) (calls : List Call) (end : List ℕ) (applied : ℕ) → Row
 
 abbrev pub Holds : Row → Type 0
-Holds (plans sheet groups costs bound length) =
+Holds (plans sheet groups costs bound bytes) =
     (groupsOf (modelIn sheet) ≡ groups) × (costsOf (modelIn sheet) ≡ costs)
-    × (boundIn (modelIn sheet) (ownPlan (modelIn sheet)) ≡ bound) × (lengthReply sheet ≡ given length)
+    × (boundIn (modelIn sheet) (ownPlan (modelIn sheet)) ≡ bound) × (lengthReply sheet ≡ given bytes)
 Holds (far sheet group from to distance) = entryAt (modelIn sheet) (ownPlan (modelIn sheet)) group from to .distance ≡ distance
 Holds (walks sheet state goal lines) = walkLines sheet state goal ≡ lines
 Holds (asks sheet state goal reply) = nextReply sheet (ownPlan (modelIn sheet)) state goal ≡ reply
@@ -161,16 +161,16 @@ cases =
     ∷ asks stove off (1 ∷ 2 ∷ 8 ∷ []) (refused 14 2)
     -- The stove's plan with a byte changed: 29 and 30 are the entry from fan and burner off to on and lit, 13 and 14 that
     -- of the board from off to on. A distance of 0 or 254 is a route, 255 is none.
-    ∷ follows stove (planWith stove 29 0) off lit (given (command 0 1))
-    ∷ follows stove (planWith stove 29 254) off lit (given (command 0 1))
-    ∷ follows stove (planWith stove 29 255) off lit (refused 17 1)
+    ∷ follows stove (changedPlan stove 29 0) off lit (given (command 0 1))
+    ∷ follows stove (changedPlan stove 29 254) off lit (given (command 0 1))
+    ∷ follows stove (changedPlan stove 29 255) off lit (refused 17 1)
     -- Entries that are unfit: no route to what a move needs; a move of another group, from another mode, held up inside its
     -- group, past the count.
-    ∷ follows stove (planWith stove 13 255) off lit (refused 15 0)
-    ∷ follows stove (planWith stove 30 0) off lit (refused 15 0)
-    ∷ follows stove (planWith stove 30 3) off lit (refused 15 0)
-    ∷ follows stove (planWith stove 30 4) off lit (refused 15 0)
-    ∷ follows stove (planWith stove 14 7) off lit (refused 15 0)
+    ∷ follows stove (changedPlan stove 13 255) off lit (refused 15 0)
+    ∷ follows stove (changedPlan stove 30 0) off lit (refused 15 0)
+    ∷ follows stove (changedPlan stove 30 3) off lit (refused 15 0)
+    ∷ follows stove (changedPlan stove 30 4) off lit (refused 15 0)
+    ∷ follows stove (changedPlan stove 14 7) off lit (refused 15 0)
     -- Plans in shape: the sheet's own; blank tables; two groups numbered the other way; 64 modes in a group.
     ∷ asks filterAndPan idle [] (given done)
     ∷ follows filterAndPan (planOf (0 ∷ 1 ∷ []) (blank 8 ∷ blank 8 ∷ [])) idle [] (given done)
@@ -179,20 +179,20 @@ cases =
     -- Out of shape, in one thing each. The group numbers: none, of another kind, too long, with a gap, with a need above
     -- its move's group, with 70 modes in a group.
     ∷ follows filterAndPan (drop 6 (planOf (0 ∷ 1 ∷ []) (blank 8 ∷ blank 8 ∷ []))) idle [] (refused 15 0)
-    ∷ follows filterAndPan (planWith filterAndPan 2 17) idle [] (refused 15 0)
-    ∷ follows filterAndPan (planWith filterAndPan 0 3) idle [] (refused 15 0)
+    ∷ follows filterAndPan (changedPlan filterAndPan 2 17) idle [] (refused 15 0)
+    ∷ follows filterAndPan (changedPlan filterAndPan 0 3) idle [] (refused 15 0)
     ∷ follows filterAndPan (planOf (0 ∷ 2 ∷ []) (blank 8 ∷ blank 2 ∷ blank 8 ∷ [])) idle [] (refused 15 0)
     ∷ follows filterAndPan (planOf (1 ∷ 0 ∷ []) (blank 8 ∷ blank 8 ∷ [])) idle [] (refused 15 0)
     ∷ follows seventy (planOf (0 ∷ 0 ∷ 0 ∷ []) (blank 9800 ∷ [])) off [] (refused 15 0)
     -- The second table, at byte 18: too short, its length written wrong, of another kind, none.
     ∷ follows filterAndPan (planOf (0 ∷ 1 ∷ []) (blank 8 ∷ blank 6 ∷ [])) idle [] (refused 15 0)
-    ∷ follows filterAndPan (planWith filterAndPan 18 7) idle [] (refused 15 0)
-    ∷ follows filterAndPan (planWith filterAndPan 20 18) idle [] (refused 15 0)
+    ∷ follows filterAndPan (changedPlan filterAndPan 18 7) idle [] (refused 15 0)
+    ∷ follows filterAndPan (changedPlan filterAndPan 20 18) idle [] (refused 15 0)
     ∷ follows filterAndPan (planOf (0 ∷ 1 ∷ []) (blank 8 ∷ [])) idle [] (refused 15 0)
     -- The bound, at 30, too short or of another kind; the end, at 38, of another kind or none; a byte behind it.
-    ∷ follows filterAndPan (planWith filterAndPan 30 3) idle [] (refused 15 0)
-    ∷ follows filterAndPan (planWith filterAndPan 32 17) idle [] (refused 15 0)
-    ∷ follows filterAndPan (planWith filterAndPan 40 18) idle [] (refused 15 0)
+    ∷ follows filterAndPan (changedPlan filterAndPan 30 3) idle [] (refused 15 0)
+    ∷ follows filterAndPan (changedPlan filterAndPan 32 17) idle [] (refused 15 0)
+    ∷ follows filterAndPan (changedPlan filterAndPan 40 18) idle [] (refused 15 0)
     ∷ follows filterAndPan (take 38 (ownPlan (modelIn filterAndPan))) idle [] (refused 15 0)
     ∷ follows filterAndPan (ownPlan (modelIn filterAndPan) ++ (0 ∷ [])) idle [] (refused 15 0)
     -- Tags. A state of one byte a machine, and one of an odd length; the first machine with an absent mode or another tag.
@@ -222,14 +222,14 @@ a ⊗ b = (a, b)
 -- every row holds, by computation
 pub cases-hold : AllHold cases
 unfolding
-    flatMap stove lone filterAndPan burnt nearer tied apart lidAndArm eights seventy otherPlan planWith planOf
+    flatMap stove lone filterAndPan burnt nearer tied apart lidAndArm eights seventy otherPlan changedPlan planOf
     parsedIn modelIn costsOf bit beyond
     successors marked single grown layersFrom layers distancesTo distances between connected upTo all any filter
     position find sum product maximum clear unless andThen word recordAt part moveOf withMachine withMove
     wrongMoveLength badMachine badMove badGuard badGuards sameMove badCommand machineFaults moveFaults endFaults
     faultsOf extended turnAt parseFrom parse names needs needGraph groupCount members smallestMember together
     numbered ready withNumber numberedUpto groupsOf movesOf namesGroup namedOutside size weight modeNumber modeIn
-    liveMode shifted meets leads landing target alwaysMet usable usableMoves moveGraph routesIn routesUpto starts entryOf
+    liveMode shifted meets leads landing endMode alwaysMet usable usableMoves moveGraph routesIn routesUpto starts entryOf
     tableOf longest costIn costsUpto boundOf planBound counted twoBytes fourBytes recordOf tableIn bytesOf tableLength tableAt
     planLength large largeGroup largePlace largePlan largeBound sizeFaults wrongBuffer ownPlan lengthReply
     planReply groupsIn tableOfGroup entryIn entryAt hasRecord gapless needsFirst fitsRecords wellShaped boundIn

@@ -118,8 +118,8 @@ otherPlan =
     1 ∷ 0 ∷ 16 ∷ 0 ∷ 0 ∷ 2 ∷ 0 ∷ 17 ∷ 0 ∷ 0 ∷ 254 ∷ 4 ∷ 0 ∷ 18 ∷ 0 ∷ 9 ∷ 9 ∷ 9 ∷ 9 ∷ 0 ∷ 0 ∷ 3 ∷ 0 ∷ []
 
 -- the sheet's own plan with the byte at a place changed
-unfoldable pub planWith : List ℕ → ℕ → ℕ → List ℕ
-planWith sheet place byte = set (ownPlan (modelIn sheet)) place byte
+unfoldable pub changedPlan : List ℕ → ℕ → ℕ → List ℕ
+changedPlan sheet place byte = set (ownPlan (modelIn sheet)) place byte
 
 -- a plan of these group numbers and tables, with a bound of 0
 unfoldable pub planOf : Grouping → List (List ℕ) → List ℕ

@@ -1,5 +1,5 @@
-pub mod Advised
 pub mod Ancestors
+pub mod Answers
 pub mod Apply
 pub mod Applying
 pub mod Arrival
@@ -8,11 +8,10 @@ pub mod Cases
 pub mod Covered
 pub mod Examples
 pub mod Goal
-pub mod Lookup
+pub mod Kept
 pub mod Meaning
 pub mod Method
 pub mod Next
-pub mod Question
 pub mod Run
 pub mod State
 pub mod Tagless

@@ -12,7 +12,7 @@ use Rattle.sheet.specs.Model.{Guard, Model, machineCount, modeCount, isLive, mo
 use Rattle.sheet.specs.Valid.{Valid}
 use Rattle.plan.specs.Groups.{groupOf, members, movesOf}
 use Rattle.plan.specs.Modes.{size, modeIn}
-use Rattle.plan.specs.Usable.{leads, target}
+use Rattle.plan.specs.Usable.{leads, endMode}
 use Rattle.plan.specs.Meaning.{Belongs}
 use Rattle.plan.specs.Reading.{groupsIn, wellShaped}
 use Rattle.command.specs.State.{modeOf, tagOf, stateFaults}
@@ -58,10 +58,10 @@ GoalsRight = (m : Model) (plan : List ℕ) → Valid m → wellShaped m plan ≡
 
 -- Where a move leads: its machine is in the to mode, every other machine of the group as before.
 pub record LeadsRight (m : Model) (plan : List ℕ) (k v p : ℕ) : Type 0 where
-  pub below : target m (groupsIn m plan) k (moveAt m v) p < size m (groupsIn m plan) k
-  pub mover : modeIn m (groupsIn m plan) k (target m (groupsIn m plan) k (moveAt m v) p) (moveAt m v .machine) ≡ moveAt m v .to
+  pub below : endMode m (groupsIn m plan) k (moveAt m v) p < size m (groupsIn m plan) k
+  pub mover : modeIn m (groupsIn m plan) k (endMode m (groupsIn m plan) k (moveAt m v) p) (moveAt m v .machine) ≡ moveAt m v .to
   pub others : (i : ℕ) → List·Memᴰ i (members (groupsIn m plan) k) → (i ≡ moveAt m v .machine → ⊥)
-      → modeIn m (groupsIn m plan) k (target m (groupsIn m plan) k (moveAt m v) p) i ≡ modeIn m (groupsIn m plan) k p i
+      → modeIn m (groupsIn m plan) k (endMode m (groupsIn m plan) k (moveAt m v) p) i ≡ modeIn m (groupsIn m plan) k p i
 
 abbrev pub MovesRight : Type 0
 MovesRight =

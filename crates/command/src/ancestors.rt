@@ -11,7 +11,7 @@ ghost use Rattle.sheet.specs.Model.{Model};
 ghost use Rattle.sheet.specs.Valid.{Valid};
 ghost use Rattle.plan.specs.Groups.{groupCount};
 ghost use Rattle.plan.specs.Reading.{groupsIn, wellShaped};
-ghost use Rattle.command.specs.Question.{NamedBy, UpstreamSet, UpstreamOfSome, MarkedFrom};
+ghost use Rattle.command.specs.Kept.Question.{NamedBy, UpstreamSet, UpstreamOfSome, MarkedFrom};
 
 // Goes on with the marks of a pass down the group numbers that has come to `top`: what a marked group or one of some groups names is
 // marked. A group names lower ones alone, so once the pass has been at a number, the marks from there up are final.

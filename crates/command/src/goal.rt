@@ -10,6 +10,7 @@ use plan::standing::within;
 use sheet::bits::has_beyond;
 use sheet::bits::has_mode;
 use sheet::index::Machine;
+use sheet::index::Sheet;
 use sheet::record::wide;
 use sheet::refusal::Cause;
 use sheet::refusal::Verdict;
@@ -21,17 +22,17 @@ ghost use lib.ListN.{length, getD};
 ghost use lib.Dec.{ltb};
 ghost use Rattle.common.specs.Lists.{upTo, find};
 ghost use Rattle.common.specs.Reply.{given, unless, clear};
-ghost use Rattle.sets.specs.Sets.{below};
+ghost use Rattle.sets.specs.Kept.Sets.{below};
 ghost use Rattle.sheet.specs.Record.{byte};
 ghost use Rattle.sheet.specs.Model.{Model, machineCount};
 ghost use Rattle.sheet.specs.Valid.{Valid};
-ghost use Rattle.plan.specs.Sizes.{CountsOf};
-ghost use Rattle.plan.specs.Partition.{MemberSets};
+ghost use Rattle.plan.specs.Kept.Sizes.{CountsOf};
+ghost use Rattle.plan.specs.Kept.Partition.{MemberSets};
 ghost use Rattle.plan.specs.Reading.{groupsIn};
-ghost use Rattle.plan.specs.Outline.{verdictSays};
+ghost use Rattle.plan.specs.Answers.{verdictSays};
 ghost use Rattle.command.specs.State.{badByte, goalFaults};
 ghost use Rattle.command.specs.Goal.{Masks, goalMasks};
-ghost use Rattle.command.specs.Question.{Allows, Placed, Kept, GroupsOnly, UnmetSet, AllowedSets};
+ghost use Rattle.command.specs.Kept.Question.{Allows, Placed, Kept, GroupsOnly, UnmetSet, AllowedSets};
 
 // The first byte that is empty or beyond its machine's modes, or the goal's length.
 fn first_bad(goal: &[u8], modes: &[u8]) -> usize
@@ -77,12 +78,12 @@ fn mask_of(goal: &[u8], i: usize, modes: u8) -> u8
 }
 
 // What a goal allows each of n machines.
-pub fn wished(goal: &[u8], modes: &[u8], n: usize) -> [u8; 32]
+pub fn wished(goal: &[u8], modes: &[u8], n: usize) -> [u8; Sheet::MACHINES]
     requires { ⌜ (n ≤ 32) × (length (now modes) ≡ 32) × ((i : ℕ) → getD (now modes) i 0 ≤ 8) ⌝ }
     ensures { λ r. ⌜ ((m : Model) → Valid m → CountsOf m (now (modes .entry)) → n ≡ machineCount m
         → clear (goalFaults m (now (goal .entry))) ≡ true → Allows m (goalMasks m (now (goal .entry))) r) ⌝ }
 {
-    let mut r = [0u8; 32];
+    let mut r = [0u8; Sheet::MACHINES];
     let mut i: usize = 0;
     while i < n {
         r[i] = mask_of(goal, i, modes[i]);
@@ -114,7 +115,7 @@ pub fn allowed_sets(
     zeros: &[u64],
     members: &[u64],
     among: u64,
-) -> [u64; 32]
+) -> [u64; Sheet::MACHINES]
     requires { ⌜ ((m : Model) × (plan : List ℕ) × (state : List ℕ) × (starts : List ℕ) × (goal : Masks)
         × Kept m plan state (now facts) (now zeros) starts × Allows m goal (now masks) × GroupsOnly m plan among
         × MemberSets (groupsIn m plan) (now members)) × (length (now masks) ≡ 32) × (length (now members) ≡ 32) ⌝ }
@@ -122,7 +123,7 @@ pub fn allowed_sets(
         → Kept m plan state (now (facts .entry)) (now (zeros .entry)) starts → Allows m goal (now (masks .entry))
         → GroupsOnly m plan among → MemberSets (groupsIn m plan) (now (members .entry)) → AllowedSets m plan goal among r) ⌝ }
 {
-    let mut r = [0u64; 32];
+    let mut r = [0u64; Sheet::MACHINES];
     let mut rest = among;
     while rest != 0 {
         let k = sets::lowest(rest);

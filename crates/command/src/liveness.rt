@@ -10,7 +10,7 @@ ghost use mathlib.Core.List.{List};
 ghost use Prim.Native.Nat.{ℕ};
 ghost use Rattle.common.specs.Lists.{pad};
 ghost use Rattle.sheet.specs.Model.{Model};
-ghost use Rattle.command.specs.Question.{Placed, FailedSet};
+ghost use Rattle.command.specs.Kept.Question.{Placed, FailedSet};
 
 // The groups that are not live: a machine of theirs is in a mode that is out of order, or tagged.
 pub fn failed(state: &[u8], live: &[u8], numbers: &[u8]) -> u64

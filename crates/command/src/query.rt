@@ -1,14 +1,20 @@
 // The facts of a question, in one array of bytes that is lent on: a struct would be copied at each call.
 use crate::state::machines_in;
 use plan::sizing::Group;
+use sheet::index::Sheet;
 use sheet::record::wide;
 ghost use mathlib.Core.Path.{_≡_};
 ghost use Prim.Native.Nat.{ℕ, _≤_, _<_};
 ghost use lib.ListN.{length, getD};
-ghost use Rattle.command.specs.Question.{machinesIn, numbersIn, weightsIn, sizeIn, presentIn};
+ghost use Rattle.command.specs.Kept.Question.{machinesIn, numbersIn, weightsIn, sizeIn, presentIn};
 
 // Each machine's group and weight, each group's size and present mode: 32 bytes each.
-pub fn gathered(numbers: &[u8], weights: &[u8], sizes: &[u8], present: &[u8]) -> [u8; 128]
+pub fn gathered(
+    numbers: &[u8],
+    weights: &[u8],
+    sizes: &[u8],
+    present: &[u8],
+) -> [u8; 4 * Sheet::MACHINES]
     requires { ⌜ (length (now numbers) ≡ 32) × (length (now weights) ≡ 32) × (length (now sizes) ≡ 32)
         × (length (now present) ≡ 32) ⌝ }
     ensures { λ r. ⌜ ((n : ℕ) → n ≤ 32 → numbersIn r n ≡ numbersIn (now (numbers .entry)) n)
@@ -16,7 +22,7 @@ pub fn gathered(numbers: &[u8], weights: &[u8], sizes: &[u8], present: &[u8]) ->
         × ((k : ℕ) → k < 32 → sizeIn r k ≡ getD (now (sizes .entry)) k 0)
         × ((k : ℕ) → k < 32 → presentIn r k ≡ getD (now (present .entry)) k 0) ⌝ }
 {
-    let mut r = [0u8; 128];
+    let mut r = [0u8; 4 * Sheet::MACHINES];
     let mut i: usize = 0;
     while i < 32 {
         r[i] = numbers[i];

@@ -1,5 +1,6 @@
 // The lent state: a mode and a tag for each machine (13), and the mode that each group is in.
 use sheet::index::Machine;
+use sheet::index::Sheet;
 use sheet::record::byte_at;
 use sheet::record::wide;
 use sheet::refusal::Cause;
@@ -11,12 +12,12 @@ ghost use lib.ListN.{length, getD, set};
 ghost use Rattle.common.specs.Lists.{upTo, find};
 ghost use Rattle.common.specs.Reply.{given, unless, clear};
 ghost use Rattle.sheet.specs.Model.{Model, machineCount};
-ghost use Rattle.plan.specs.Sizes.{CountsOf};
+ghost use Rattle.plan.specs.Kept.Sizes.{CountsOf};
 ghost use Rattle.plan.specs.Groups.{groupCount};
 ghost use Rattle.plan.specs.Modes.{modeNumber};
-ghost use Rattle.plan.specs.ModeSets.{Weighed};
-ghost use Rattle.plan.specs.Outline.{verdictSays};
-ghost use Rattle.command.specs.Question.{machinesIn};
+ghost use Rattle.plan.specs.Kept.ModeSets.{Weighed};
+ghost use Rattle.plan.specs.Answers.{verdictSays};
+ghost use Rattle.command.specs.Kept.Question.{machinesIn};
 ghost use Rattle.command.specs.State.{modes, modeOf, tagOf, withMode, badPair, stateFaults};
 
 // The place of 13 and 14 where a length is wrong.
@@ -101,14 +102,14 @@ pub fn check(state: &[u8], modes: &[u8], n: usize) -> Verdict
 }
 
 // The mode that each group is in.
-pub fn present(state: &[u8], numbers: &[u8], weights: &[u8]) -> [u8; 32]
+pub fn present(state: &[u8], numbers: &[u8], weights: &[u8]) -> [u8; Sheet::MACHINES]
     requires { ⌜ ((m : Model) × Weighed m (now numbers) (now weights) × (clear (stateFaults m (now state)) ≡ true)
         × ((i : ℕ) → i < length (now numbers) → getD (now numbers) i 0 < 32)) ⌝ }
     ensures { λ r. ⌜ ((m : Model) → Weighed m (now (numbers .entry)) (now (weights .entry))
         → clear (stateFaults m (now (state .entry))) ≡ true → (k : ℕ) → k < 32
         → getD r k 0 ≡ modeNumber m (now (numbers .entry)) k (modes (now (state .entry)))) ⌝ }
 {
-    let mut r = [0u8; 32];
+    let mut r = [0u8; Sheet::MACHINES];
     let mut i: usize = 0;
     while i < numbers.len() {
         let k = wide(numbers[i]);

@@ -132,10 +132,6 @@ module _ {A : Type 0} (p : A → Bool) where
   length-filter (x ∷ xs) =
       by-cases (p x) (λ t. rw t (suc-le-suc (length-filter xs))) (λ f. rw f (omega (arith, length-filter xs)))
 
--- what holds for each holds for each of those that
-pub all-of-filter : {A : Type 0} (p q : A → Bool) (xs : List A) → all p xs ≡ true → all p (filter q xs) ≡ true
-all-of-filter p q xs h = all-intro p (filter q xs) (λ x m. all-at p h (filter-from q xs m))
-
 -- for each of those that: each is one or is not among those
 pub all-filtered : {A : Type 0} (p q : A → Bool) (xs : List A) → all p (filter q xs) ≡ all (λ x. not (q x) || p x) xs
 unfolding all filter
@@ -159,11 +155,6 @@ module _ {A : Type 0} (p q : A → Bool) where
   unfolding filter
   filter-cong [] h = refl
   filter-cong (x ∷ xs) h = rw (h x (head refl), filter-cong xs (λ y m. h y (tail m)))
-
-  -- what is weaker holds too
-  pub all-imply : (xs : List A) → ((x : A) → List·Memᴰ x xs → p x ≡ true → q x ≡ true)
-      → all p xs ≡ true → all q xs ≡ true
-  all-imply xs h a = all-intro q xs (λ x m. h x m (all-at p a m))
 
 pub map-cong : {A B : Type 0} (f g : A → B) (xs : List A) → ((x : A) → List·Memᴰ x xs → f x ≡ g x) → map f xs ≡ map g xs
 map-cong f g [] h = refl

@@ -39,8 +39,5 @@ module _ {A : Type 0} (upto : ℕ → List A) (next : ℕ → A) (none : upto 0 
   built-map zero = none
   built-map (suc k) = more k ∙ rw (built-map k) (sym (map-append next (upTo k) (k ∷ [])))
 
-  pub built-length : (k : ℕ) → length (upto k) ≡ k
-  built-length k = ap length (built-map k) ∙ length-map-upTo next k
-
   pub built-at : {i k : ℕ} (d : A) → i < k → getD (upto k) i d ≡ next i
   built-at {i} {k} d h = ap (λ xs. getD xs i d) (built-map k) ∙ getD-map-upTo next d h

@@ -14,7 +14,7 @@ use Rattle.common.proofs.Bools.{by-cases, true-false}
 use Rattle.common.proofs.Lists.{all-at}
 use Rattle.common.proofs.Members.{mem-getD}
 use Rattle.decimal.specs.Decimal.{digit, decimal, isDigit, startsWith, readNumber}
-use Rattle.decimal.specs.Digits.{Starts}
+use Rattle.decimal.specs.Kept.Digits.{Starts}
 use Rattle.decimal.specs.Meaning.{Begins}
 use Rattle.decimal.proofs.Digits.{digit-within, decimal-digits, some-digit, no-leading-zero, digits-enough}
 use Rattle.decimal.proofs.Exact.{no-digit-at, no-digit-from, read-written, read-begins, read-at-most, read-too-large}

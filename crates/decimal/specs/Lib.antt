@@ -1,3 +1,3 @@
 pub mod Decimal
-pub mod Digits
+pub mod Kept
 pub mod Meaning

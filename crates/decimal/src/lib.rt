@@ -9,10 +9,10 @@ ghost use mathlib.Core.Bool.{true};
 ghost use Prim.Native.Nat.{_+_, _-_, _%_, _≤_, _<_};
 ghost use mathlib.Core.List.{[], _∷_};
 ghost use lib.ListN.{length, getD, drop};
-ghost use Rattle.plan.specs.Written.{written};
+ghost use Rattle.plan.specs.Kept.Written.{written};
 ghost use Rattle.decimal.specs.Decimal.{digit, digits, decimal, isDigit};
 ghost use Rattle.decimal.specs.Decimal.{startsWith, readNumber};
-ghost use Rattle.decimal.specs.Digits.{Starts};
+ghost use Rattle.decimal.specs.Kept.Digits.{Starts};
 
 // Writes the last digit of a number at a place, and gives the place behind it.
 fn put_digit(out: &mut [u8], at: usize, n: usize) -> usize

@@ -13,13 +13,13 @@ use Rattle.common.proofs.Clear.{clear-append, clear-each, each-clear, unless-ap
 use Rattle.sheet.specs.declared.index.Sheet.{Sheet}
 use Rattle.sheet.specs.Model.{Model, machineCount}
 use Rattle.sheet.specs.Parse.{parse}
-use Rattle.sheet.specs.Index.{Indexes}
+use Rattle.sheet.specs.Kept.Indexed.{Indexes}
 use Rattle.command.specs.State.{goalFaults}
 use Rattle.command.proofs.TurnedDown.{goal-passes}
 use Rattle.joining.specs.Join.{Goals, mostGoals, goalsIn, eachFaults, sharedFaults, joined}
 use Rattle.joining.specs.Join.{joinedReply, joinReply}
 use Rattle.joining.specs.Joined.{EachFits}
-use Rattle.joining.specs.Lent.{isGiven, Splits, SplitsShort}
+use Rattle.joining.specs.Kept.Lent.{isGiven, Splits, SplitsShort}
 use Rattle.joining.proofs.Sharing.{sharedReply}
 use Rattle.joining.proofs.Slices.{lent-goals, lent-or-refused}
 

@@ -18,12 +18,12 @@ use Rattle.sheet.specs.declared.refusal.Verdict.the-variants.{Accepted, Refused
 use Rattle.sheet.specs.Record.{byte, part}
 use Rattle.sheet.specs.Model.{Model, machineCount}
 use Rattle.sheet.proofs.Records.{part-length}
-use Rattle.plan.specs.Sizes.{CountsOf}
-use Rattle.plan.specs.Outline.{verdictSays}
+use Rattle.plan.specs.Kept.Sizes.{CountsOf}
+use Rattle.plan.specs.Answers.{verdictSays}
 use Rattle.command.specs.State.{goalFaults}
 use Rattle.command.proofs.Verdicts.{accepted-clear, refused-first}
 use Rattle.joining.specs.Join.{Goals, mostGoals, goalsIn, longestGoal, eachFaults}
-use Rattle.joining.specs.Lent.{isGiven, Splits}
+use Rattle.joining.specs.Kept.Lent.{isGiven, Splits}
 use Rattle.joining.proofs.Splitting.{none-left, one-too-many, next-cut, next-whole}
 use Rattle.joining.proofs.Splitting.{ReadTo, read-none, read-whole, read-first, read-next, read-end}
 

@@ -8,8 +8,8 @@ use native.Mathlib.Numerals.{add-one}
 use native.Mathlib.Omega.{arith}
 use lib.ListN.{length, getD, set, take, length-set}
 use lib.Seq.{take-length}
-use Rattle.sets.specs.Sets.{both}
-use Rattle.joining.specs.Lent.{narrowed}
+use Rattle.sets.specs.Kept.Sets.{both}
+use Rattle.joining.specs.Kept.Lent.{narrowed}
 
 pub narrowed-none : (masks : List ℕ) → narrowed masks [] ≡ masks
 unfolding narrowed

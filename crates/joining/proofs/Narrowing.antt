@@ -15,11 +15,11 @@ use Rattle.common.proofs.Bits.{bit-full, worths-make}
 use Rattle.common.proofs.Bools.{by-cases}
 use Rattle.common.proofs.Lists.{map-cong}
 use Rattle.common.proofs.Members.{upTo-below}
-use Rattle.sets.specs.Sets.{both}
+use Rattle.sets.specs.Kept.Sets.{both}
 use Rattle.sets.proofs.Laws.{bit-both}
 use Rattle.command.specs.Goal.{wished}
 use Rattle.joining.specs.Join.{Goals, sharedModes}
-use Rattle.joining.specs.Lent.{narrowed, narrowedBy}
+use Rattle.joining.specs.Kept.Lent.{narrowed, narrowedBy}
 
 -- the mask of machine i after one goal: one that the goal reaches, and one past its end
 narrowed-within : (masks goal : List ℕ) (i : ℕ) → i < length goal

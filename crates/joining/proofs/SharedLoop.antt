@@ -5,7 +5,7 @@ use mathlib.Core.List.{List, List·Memᴰ, List·Memᴰ·head, List·Memᴰ·tai
 use lib.ListN.{length, getD, replicate}
 use Rattle.sheet.specs.Record.{byte, part}
 use Rattle.joining.specs.Join.{Goals, sharedModes}
-use Rattle.joining.specs.Lent.{SplitsShort, narrowed, narrowedBy}
+use Rattle.joining.specs.Kept.Lent.{SplitsShort, narrowed, narrowedBy}
 use Rattle.joining.proofs.Splitting.{ReadTo, read-none, read-first, read-next, read-end}
 use Rattle.joining.proofs.Narrowing.{narrowed-shared}
 

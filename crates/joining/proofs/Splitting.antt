@@ -14,7 +14,7 @@ use Rattle.common.specs.Reply.{given, refused, fault, unless, andThen}
 use Rattle.common.proofs.Reply.{given-not-refused, unless-first, unless-clear, given-clear, andThen-given}
 use Rattle.sheet.specs.Record.{byte, part}
 use Rattle.joining.specs.Join.{Goals, mostGoals, goalsIn}
-use Rattle.joining.specs.Lent.{Splits}
+use Rattle.joining.specs.Kept.Lent.{Splits}
 
 given-is : {a b : Goals} → given a ≡ given b → a ≡ b
 given-is e = cc

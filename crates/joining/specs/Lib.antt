@@ -1,4 +1,4 @@
 pub mod Cooks
 pub mod Join
 pub mod Joined
-pub mod Lent
+pub mod Kept

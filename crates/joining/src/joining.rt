@@ -15,10 +15,10 @@ ghost use lib.Dec.{eqb};
 ghost use Rattle.common.specs.Lists.{upTo, find};
 ghost use Rattle.common.specs.Reply.{given, unless, lengthOf, outputAfter};
 ghost use Rattle.sheet.specs.Model.{Model, machineCount};
-ghost use Rattle.plan.specs.Sizes.{CountsOf};
-ghost use Rattle.plan.specs.Measured.{measuredOf};
+ghost use Rattle.plan.specs.Kept.Sizes.{CountsOf};
+ghost use Rattle.plan.specs.Answers.{measuredOf};
 ghost use Rattle.joining.specs.Join.{Goals, joined, sharedFaults, joinedReply, joinReply};
-ghost use Rattle.joining.specs.Lent.{SplitsShort};
+ghost use Rattle.joining.specs.Kept.Lent.{SplitsShort};
 
 // The first of n machines that is left without a mode, or n.
 fn first_without(masks: &[u8], n: usize) -> usize

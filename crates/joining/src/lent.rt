@@ -1,6 +1,7 @@
 // The goals that are lent in one slice, each after a byte with its length: how many they may be, each of them tested (14), the
 // longest, and what all of them allow.
 use command::goal::check;
+use sheet::index::Sheet;
 use sheet::record::wide;
 use sheet::refusal::Verdict;
 ghost use mathlib.Core.Path.{_≡_};
@@ -9,10 +10,10 @@ ghost use lib.ListN.{length, getD};
 ghost use Rattle.common.specs.Reply.{given, unless};
 ghost use Rattle.sheet.specs.Record.{byte, part};
 ghost use Rattle.sheet.specs.Model.{Model, machineCount};
-ghost use Rattle.plan.specs.Sizes.{CountsOf};
-ghost use Rattle.plan.specs.Outline.{verdictSays};
+ghost use Rattle.plan.specs.Kept.Sizes.{CountsOf};
+ghost use Rattle.plan.specs.Answers.{verdictSays};
 ghost use Rattle.joining.specs.Join.{Goals, mostGoals, goalsIn, sharedModes, longestGoal, eachFaults};
-ghost use Rattle.joining.specs.Lent.{isGiven, Splits, SplitsShort, narrowed};
+ghost use Rattle.joining.specs.Kept.Lent.{isGiven, Splits, SplitsShort, narrowed};
 
 // Goals that are joined.
 pub struct Joint;
@@ -103,12 +104,12 @@ fn narrow(masks: &mut [u8], goal: &[u8])
 }
 
 // What all goals allow each machine.
-pub fn shared(goals: &[u8]) -> [u8; 32]
+pub fn shared(goals: &[u8]) -> [u8; Sheet::MACHINES]
     requires { ⌜ ((each : Goals) × SplitsShort (now goals) each) ⌝ }
     ensures { λ r. ⌜ ((each : Goals) → SplitsShort (now (goals .entry)) each → (i : ℕ) → i < 32
         → getD r i 0 ≡ sharedModes each i) ⌝ }
 {
-    let mut r = [255u8; 32];
+    let mut r = [255u8; Sheet::MACHINES];
     let mut at: usize = 0;
     while at < goals.len() {
         narrow(&mut r[..], goal_at(goals, at));

@@ -10,7 +10,7 @@ use lib.Seq.{drop-append-seam}
 use Rattle.decimal.specs.Decimal.{decimal}
 use Rattle.decimal.proofs.Exact.{read-written}
 use Rattle.picture.specs.Text.{lastLine, lineStart}
-use Rattle.picture.specs.Rows.{arrow, edgeEnd, edgesOf}
+use Rattle.picture.specs.Kept.Rows.{arrow, edgeEnd, edgesOf}
 use Rattle.picture.proofs.LineParts.{row-none, row-parts}
 
 -- lines that begin with a group's name and a space: the same group, and the same byte behind the space

@@ -23,9 +23,9 @@ use Rattle.picture.specs.declared.matching.End.{End}
 use Rattle.picture.specs.Picture.{Picture, edgesBy}
 use Rattle.picture.specs.Text.{firstLine, lastLine, lineStart, nodeLine, edgeLine, textOf}
 use Rattle.picture.specs.Reading.{drawable}
-use Rattle.picture.specs.Matched.{NoPicture, labelled}
-use Rattle.picture.specs.Rows.{labelStart, nodeOf, edgesOf}
-use Rattle.picture.specs.Matched.{Grouped, NodesFound, Gapless, EdgesFound, TextFound}
+use Rattle.picture.specs.Kept.Matched.{NoPicture, labelled}
+use Rattle.picture.specs.Kept.Rows.{labelStart, nodeOf, edgesOf}
+use Rattle.picture.specs.Kept.Matched.{Grouped, NodesFound, Gapless, EdgesFound, TextFound}
 use Rattle.picture.proofs.Apart.{no-line-opens}
 use Rattle.picture.proofs.DrawableMeans.{Drawable, drawable-means, few-groups, group-used}
 use Rattle.picture.proofs.Seen.{is-labelled, labelled-seen}

@@ -11,14 +11,14 @@ use Rattle.common.specs.Lists.{upTo, filter}
 use Rattle.common.proofs.Bools.{true-false}
 use Rattle.decimal.specs.Decimal.{decimal, startsWith}
 use Rattle.decimal.proofs.Exact.{starts-rest}
-use Rattle.sets.specs.Sets.{alone, union, elements}
+use Rattle.sets.specs.Kept.Sets.{alone, union, elements}
 use Rattle.sets.proofs.Laws.{bit-none}
 use Rattle.sets.proofs.Members.{elements-none}
 use Rattle.picture.specs.declared.matching.Number.{Number}
 use Rattle.picture.specs.Picture.{edge}
 use Rattle.picture.specs.Text.{lineStart, edgeLine}
-use Rattle.picture.specs.Matched.{Spans, NumberFound, Joined, RowFound}
-use Rattle.picture.specs.Rows.{arrow, edgeEnd, edgesOf}
+use Rattle.picture.specs.Kept.Matched.{Spans, NumberFound, Joined, RowFound}
+use Rattle.picture.specs.Kept.Rows.{arrow, edgeEnd, edgesOf}
 use Rattle.picture.proofs.LineParts.{edgeStart, row-parts, row-none, row-snoc}
 use Rattle.picture.proofs.Rising.{elements-more, grown-below, next-below, next-rises}
 use Rattle.picture.proofs.Spanning.{starts-there, behind, spans-none, spans-then, spans-bytes, spans-rest}

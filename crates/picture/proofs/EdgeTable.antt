@@ -16,11 +16,11 @@ use Rattle.common.proofs.Bools.{true-false}
 use Rattle.common.proofs.Least.{last-or-below}
 use Rattle.common.proofs.Members.{upTo-below}
 use Rattle.common.proofs.Sums.{flatMap-cong, flatMap-upTo-more}
-use Rattle.sets.specs.Sets.{elements}
+use Rattle.sets.specs.Kept.Sets.{elements}
 use Rattle.picture.specs.declared.matching.Row.{Row}
 use Rattle.picture.specs.Text.{lastLine, lineStart}
-use Rattle.picture.specs.Matched.{Spans, Joined, RowFound, EdgesStand, EdgesFound}
-use Rattle.picture.specs.Rows.{arrow, edgesOf}
+use Rattle.picture.specs.Kept.Matched.{Spans, Joined, RowFound, EdgesStand, EdgesFound}
+use Rattle.picture.specs.Kept.Rows.{arrow, edgesOf}
 use Rattle.picture.proofs.Apart.{no-line-opens}
 use Rattle.picture.proofs.Spanning.{spans-none, spans-then, pieces-next, pieces-end}
 

@@ -8,12 +8,12 @@ use native.Mathlib.Nat.{zero-add}
 use lib.ListN.{length, drop, length-append}
 use Rattle.common.specs.Reply.{given, refused, lengthOf, outputAfter}
 use Rattle.decimal.proofs.Putting.{Puts, puts-then}
-use Rattle.plan.specs.Written.{written}
+use Rattle.plan.specs.Kept.Written.{written}
 use Rattle.picture.specs.Picture.{pictureBytes}
 use Rattle.picture.specs.Text.{firstLine, lastLine}
 use Rattle.picture.specs.Graph.{fitted}
-use Rattle.picture.specs.Rows.{nodeRow, edgeRow, pairRow, rowsOf, textRows}
-use Rattle.picture.specs.Shown.{Shows, shown}
+use Rattle.picture.specs.Kept.Rows.{nodeRow, edgeRow, pairRow, rowsOf, textRows}
+use Rattle.picture.specs.Kept.Shown.{Shows, shown}
 use Rattle.picture.proofs.Replies.{too-long, short-enough}
 use Rattle.picture.proofs.TextRows.{bytes-rows}
 

@@ -9,10 +9,10 @@ use lib.Dec.{ltb}
 use lib.Pow.{pow-mono, pow-pos}
 use Rattle.common.specs.Bits.{bit}
 use Rattle.common.proofs.Bools.{true-false}
-use Rattle.sets.specs.Sets.{below}
+use Rattle.sets.specs.Kept.Sets.{below}
 use Rattle.sets.proofs.Digits.{same-bits}
 use Rattle.sets.proofs.Laws.{bit-none, bit-first}
-use Rattle.picture.specs.Matched.{Gapless}
+use Rattle.picture.specs.Kept.Matched.{Gapless}
 
 first-fits : (n : ℕ) → n ≤ 64 → below n < 2 ^ 64
 unfolding below

@@ -12,13 +12,13 @@ use Rattle.common.specs.Bits.{bit}
 use Rattle.common.specs.Lists.{upTo, filter}
 use Rattle.common.proofs.Bools.{true-false}
 use Rattle.decimal.specs.Decimal.{decimal, startsWith}
-use Rattle.sets.specs.Sets.{alone, union, elements}
+use Rattle.sets.specs.Kept.Sets.{alone, union, elements}
 use Rattle.sets.proofs.Laws.{bit-none}
 use Rattle.sets.proofs.Members.{elements-none}
 use Rattle.picture.specs.declared.matching.Number.{Number}
 use Rattle.picture.specs.Text.{labels}
-use Rattle.picture.specs.Matched.{Spans, NumberFound, Labelled, LabelFound}
-use Rattle.picture.specs.Rows.{labelEnd}
+use Rattle.picture.specs.Kept.Matched.{Spans, NumberFound, Labelled, LabelFound}
+use Rattle.picture.specs.Kept.Rows.{labelEnd}
 use Rattle.picture.proofs.LineParts.{separator, labels-snoc, separator-snoc, separator-some, separator-later}
 use Rattle.picture.proofs.LineParts.{label-breaks}
 use Rattle.picture.proofs.Rising.{elements-more, grown-below, next-below, next-rises}

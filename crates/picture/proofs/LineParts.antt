@@ -11,7 +11,7 @@ use Rattle.decimal.specs.Decimal.{decimal, startsWith}
 use Rattle.decimal.specs.Meaning.{NoDigitFirst}
 use Rattle.picture.specs.Picture.{edge}
 use Rattle.picture.specs.Text.{lineStart, labels, edgeLine}
-use Rattle.picture.specs.Rows.{labelStart, labelEnd, arrow, edgeEnd, nodeOf, edgesOf}
+use Rattle.picture.specs.Kept.Rows.{labelStart, labelEnd, arrow, edgeEnd, nodeOf, edgesOf}
 use Rattle.picture.proofs.Spanning.{starts-there}
 
 -- Labels

@@ -22,7 +22,9 @@ use Rattle.plan.specs.Groups.{Grouping, groupOf, groupCount, groupsOf, members}
 use Rattle.picture.specs.Picture.{Edge, edge, Picture, edgesBy, namedBy, pictureOf}
 use Rattle.picture.specs.Text.{firstLine, lastLine, lineStart, labels, nodeLine, edgeLine, textOf}
 use Rattle.picture.specs.Drawn.{LongestRight}
+use Rattle.picture.specs.Kept.Rows.{nodeOf}
 use Rattle.picture.proofs.Labels.{labelLength, labels-length}
+use Rattle.picture.proofs.Pieces.{node-length}
 use Rattle.picture.proofs.Edges.{edgesBy-members}
 use Rattle.picture.proofs.Numbers.{pictures-are-drawable}
 use Rattle.picture.proofs.DrawableMeans.{Drawable, drawable-means, few-groups}
@@ -34,19 +36,10 @@ use Rattle.picture.proofs.Sheets.{drawnBy, edge-lower, every-drawable-h
 abbrev nodeFrame : ℕ → ℕ
 nodeFrame k = 15 + length (decimal k)
 
-node-length : (groups : Grouping) (k : ℕ)
+frame-length : (groups : Grouping) (k : ℕ)
     → length (nodeLine groups k) ≡ nodeFrame k + sum (map labelLength (members groups k))
-unfolding nodeLine lineStart
-node-length groups k =
-    let label : List ℕ = 32 ∷ 91 ∷ 108 ∷ 97 ∷ 98 ∷ 101 ∷ 108 ∷ 61 ∷ [] in
-    let machines = labels 34 (members groups k) in
-    omega (
-      arith,
-      length-append (lineStart k ++ label ++ machines) (34 ∷ 93 ∷ 59 ∷ 10 ∷ []),
-      length-append (lineStart k ++ label) machines,
-      length-append (lineStart k) label,
-      labels-length 34 (members groups k),
-    )
+unfolding nodeLine nodeOf
+frame-length groups k = omega (arith, node-length k (members groups k), labels-length 34 (members groups k))
 
 abbrev edgeLength : ℕ → ℕ → ℕ
 edgeLength a k = length (edgeLine (edge a k))
@@ -84,7 +77,7 @@ module _ (groups : Grouping) (joined : ℕ → ℕ → Bool) (d : Drawable (draw
         arith,
         length-flatMap (nodeLine groups) (upTo count),
         sum-mono (λ k. length (nodeLine groups k)) (λ k. nodeFrame k + own k) (upTo count)
-            (λ k m. omega (arith, node-length groups k)),
+            (λ k m. omega (arith, frame-length groups k)),
         sum-add nodeFrame own (upTo count),
         sum-up nodeFrame 32 few,
         most-nodes,

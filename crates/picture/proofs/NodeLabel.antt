@@ -9,11 +9,11 @@ use lib.ListN.{length, getD, drop, length-append}
 use Rattle.common.specs.Lists.{upTo, filter}
 use Rattle.decimal.specs.Decimal.{decimal, startsWith}
 use Rattle.decimal.proofs.Exact.{starts-rest}
-use Rattle.sets.specs.Sets.{elements}
+use Rattle.sets.specs.Kept.Sets.{elements}
 use Rattle.picture.specs.declared.matching.Label.{Label}
 use Rattle.picture.specs.Text.{lineStart, labels}
-use Rattle.picture.specs.Matched.{Spans, LabelFound, NodeFound}
-use Rattle.picture.specs.Rows.{labelStart, labelEnd, nodeOf}
+use Rattle.picture.specs.Kept.Matched.{Spans, LabelFound, NodeFound}
+use Rattle.picture.specs.Kept.Rows.{labelStart, labelEnd, nodeOf}
 use Rattle.picture.proofs.LineParts.{nodeStart, start-parts, node-parts}
 use Rattle.picture.proofs.Spanning.{starts-there, behind, byte-there, spans-then, spans-bytes}
 

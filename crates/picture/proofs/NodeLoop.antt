@@ -18,17 +18,17 @@ use Rattle.common.proofs.Members.{upTo-below}
 use Rattle.common.proofs.Sums.{flatMap-cong}
 use Rattle.decimal.specs.Decimal.{startsWith}
 use Rattle.decimal.proofs.Exact.{starts-rest}
-use Rattle.sets.specs.Sets.{union, both, elements}
+use Rattle.sets.specs.Kept.Sets.{union, both, elements}
 use Rattle.sets.proofs.Laws.{bit-none, bit-both, no-bits}
 use Rattle.sets.proofs.Members.{bit-element, elements-none}
-use Rattle.search.specs.Search.{Marked}
+use Rattle.search.specs.Kept.Search.{Marked}
 use Rattle.plan.specs.Groups.{Grouping, groupOf, groupCount, members}
 use Rattle.plan.proofs.ModeDigits.{member-of}
 use Rattle.picture.specs.declared.matching.Label.{Label}
 use Rattle.picture.specs.Text.{lineStart}
-use Rattle.picture.specs.Matched.{Spans, NodeFound, labelled}
-use Rattle.picture.specs.Rows.{labelStart, nodeOf}
-use Rattle.picture.specs.Matched.{NodesStand, Grouped, NodesFound}
+use Rattle.picture.specs.Kept.Matched.{Spans, NodeFound, labelled}
+use Rattle.picture.specs.Kept.Rows.{labelStart, nodeOf}
+use Rattle.picture.specs.Kept.Matched.{NodesStand, Grouped, NodesFound}
 use Rattle.picture.proofs.LineParts.{nodeStart, start-parts, node-begins}
 use Rattle.picture.proofs.Spanning.{spans-none}
 use Rattle.picture.proofs.Spanning.{pieces-next, pieces-end}

@@ -11,8 +11,8 @@ use lib.ListN.{length, drop}
 use Rattle.common.proofs.Bools.{true-false, and-intro, and-left, and-right}
 use Rattle.decimal.specs.Decimal.{decimal, readNumber}
 use Rattle.decimal.proofs.Exact.{read-written}
-use Rattle.sets.specs.Sets.{lowered}
-use Rattle.picture.specs.Matched.{NumberFound}
+use Rattle.sets.specs.Kept.Sets.{lowered}
+use Rattle.picture.specs.Kept.Matched.{NumberFound}
 use Rattle.picture.proofs.Spanning.{spans-number}
 
 module _ (text : List ℕ) (at s n : ℕ) (few : n ≤ 64) {i : ℕ} (e : i ≡ readNumber (drop at text)) where

@@ -9,11 +9,11 @@ use lib.ListN.{length, set, take, length-append}
 use lib.Seq.{sets-eq}
 use Rattle.decimal.specs.Decimal.{decimal}
 use Rattle.decimal.proofs.Putting.{Puts, puts-then}
-use Rattle.sets.specs.Sets.{elements}
-use Rattle.plan.specs.Written.{written}
+use Rattle.sets.specs.Kept.Sets.{elements}
+use Rattle.plan.specs.Kept.Written.{written}
 use Rattle.picture.specs.Picture.{edge}
 use Rattle.picture.specs.Text.{lineStart, labels, edgeLine}
-use Rattle.picture.specs.Rows.{nodeOf, nodeRow}
+use Rattle.picture.specs.Kept.Rows.{labelStart, labelEnd, nodeOf, nodeRow}
 
 pub name-length : (k : ℕ) → length (lineStart k) ≡ 3 + length (decimal k)
 unfolding lineStart
@@ -29,16 +29,15 @@ edge-length a k =
       length-append (lineStart a) arrow,
     )
 
-pub node-length : (set k : ℕ) → length (nodeRow set k) ≡ 15 + length (decimal k) + length (labels 34 (elements set))
+-- the line of a node, whatever its machines
+pub node-length : (k : ℕ) (machines : List ℕ) → length (nodeOf k machines) ≡ 15 + length (decimal k) + length (labels 34 machines)
 unfolding nodeOf lineStart
-node-length set k =
-    let label : List ℕ = 32 ∷ 91 ∷ 108 ∷ 97 ∷ 98 ∷ 101 ∷ 108 ∷ 61 ∷ [] in
-    let machines = labels 34 (elements set) in
+node-length k machines =
     omega (
       arith,
-      length-append (lineStart k ++ label ++ machines) (34 ∷ 93 ∷ 59 ∷ 10 ∷ []),
-      length-append (lineStart k ++ label) machines,
-      length-append (lineStart k) label,
+      length-append (lineStart k ++ labelStart ++ labels 34 machines) labelEnd,
+      length-append (lineStart k ++ labelStart) (labels 34 machines),
+      length-append (lineStart k) labelStart,
     )
 
 pub pair-written : (s : List ℕ) (at a k : ℕ) → at + 2 ≤ length s

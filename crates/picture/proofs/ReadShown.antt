@@ -19,8 +19,8 @@ use Rattle.picture.specs.Picture.{edgesBy, pictureBytes}
 use Rattle.picture.specs.Text.{textOf}
 use Rattle.picture.specs.Reading.{saidNothing, saidAfter, takenApart, inTurn, drawable}
 use Rattle.picture.specs.Graph.{fitted, sameBytes, isText, readAs, readReply}
-use Rattle.picture.specs.Shown.{shown, Shown}
-use Rattle.picture.specs.Matched.{NoPicture}
+use Rattle.picture.specs.Kept.Shown.{shown, Shown}
+use Rattle.picture.specs.Kept.Matched.{NoPicture}
 use Rattle.picture.proofs.Replies.{same-equal, same-self, read-refused, read-fitted}
 use Rattle.picture.proofs.TakenApart.{picture-back}
 

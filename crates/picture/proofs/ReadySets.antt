@@ -18,13 +18,13 @@ use Rattle.common.proofs.Lists.{any-none, any-fails, all-intro}
 use Rattle.common.proofs.Members.{upTo-below}
 use Rattle.common.proofs.Search.{find-cong}
 use Rattle.common.proofs.Tested.{one-fails}
-use Rattle.sets.specs.Sets.{union}
+use Rattle.sets.specs.Kept.Sets.{union}
 use Rattle.sets.proofs.Laws.{bit-none, bit-union}
 use Rattle.plan.proofs.Named.{group-below-count}
 use Rattle.picture.specs.Picture.{Edge, edge, edgesBy}
 use Rattle.picture.specs.Reading.{ready, inTurn}
-use Rattle.picture.specs.Shown.{shown, Shows}
-use Rattle.picture.specs.Turns.{Waiting, readyIn, turnOf}
+use Rattle.picture.specs.Kept.Shown.{shown, Shows}
+use Rattle.picture.specs.Kept.Turns.{Waiting, readyIn, turnOf}
 use Rattle.picture.proofs.Edges.{edgesBy-members}
 
 module _ {numbers targets : List ℕ} (s : Shows numbers targets) where

@@ -16,7 +16,7 @@ use Rattle.common.specs.Lists.{upTo, filter}
 use Rattle.common.proofs.Bools.{true-false, false-of-not-true, or-right, or-cases}
 use Rattle.common.proofs.Lists.{all-intro, filter-all, filter-from, filter-holds, filter-cong}
 use Rattle.common.proofs.Members.{mem-getD, mem-index, upTo-below}
-use Rattle.sets.specs.Sets.{alone, union, lowered, elements}
+use Rattle.sets.specs.Kept.Sets.{alone, union, lowered, elements}
 use Rattle.sets.proofs.Laws.{bit-none, bit-union, bit-alone, bit-lowered, no-bits}
 use Rattle.sets.proofs.Members.{bit-element}
 use Rattle.plan.proofs.ModeDigits.{Rising, filter-next, filter-rises, filter-below}

@@ -9,10 +9,10 @@ use lib.ListN.{length}
 use Rattle.common.specs.Lists.{sum}
 use Rattle.common.proofs.Lists.{map-cong}
 use Rattle.common.proofs.Sums.{sum-add, sum-constant, length-flatMap, length-twos}
-use Rattle.sets.specs.Sets.{elements}
+use Rattle.sets.specs.Kept.Sets.{elements}
 use Rattle.picture.specs.Picture.{edge}
 use Rattle.picture.specs.Text.{edgeLine}
-use Rattle.picture.specs.Rows.{edgesOf, nodeRow, edgeRow, pairRow}
+use Rattle.picture.specs.Kept.Rows.{edgesOf, nodeRow, edgeRow, pairRow}
 use Rattle.picture.proofs.Labels.{labels-length}
 use Rattle.picture.proofs.Pieces.{edge-length, node-length}
 use Rattle.picture.proofs.SetSizes.{width}
@@ -36,7 +36,7 @@ module _ (set : ℕ) {size digits : ℕ} (es : size ≡ length (elements set))
     (ed : digits ≡ sum (map width (elements set))) where
   pub node-adds : (k : ℕ) {w : ℕ} → w ≡ width k → 15 + w + size + digits ≡ length (nodeRow set k)
   node-adds k ew =
-      omega (arith, node-length set k, labels-length 34 (elements set), each-with 1 (elements set))
+      omega (arith, node-length k (elements set), labels-length 34 (elements set), each-with 1 (elements set))
 
   pub edges-add : (a : ℕ) {w : ℕ} → w ≡ width a → (10 + w) * size + digits ≡ length (edgeRow set a)
   unfolding edgesOf

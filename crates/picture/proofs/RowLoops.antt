@@ -10,7 +10,7 @@ use lib.ListN.{length, getD, length-append}
 use Rattle.common.specs.Lists.{upTo}
 use Rattle.common.proofs.Sums.{flatMap-upTo-suc, flatMap-upTo-add}
 use Rattle.decimal.proofs.Putting.{Puts, puts-none, puts-then}
-use Rattle.picture.specs.Rows.{rowsUpto, rowsOf}
+use Rattle.picture.specs.Kept.Rows.{rowsUpto, rowsOf}
 
 module _ (row : ℕ → ℕ → List ℕ) (sets : List ℕ) where
   -- the row of group j

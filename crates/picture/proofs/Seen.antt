@@ -16,12 +16,12 @@ use Rattle.common.proofs.Lists.{filter-mem, filter-holds, filter-cong}
 use Rattle.common.proofs.Least.{last-or-below}
 use Rattle.common.proofs.Members.{mem-index, upTo-mem, upTo-below}
 use Rattle.common.proofs.Sums.{flatMap-upTo-more}
-use Rattle.sets.specs.Sets.{union, both, elements}
+use Rattle.sets.specs.Kept.Sets.{union, both, elements}
 use Rattle.sets.proofs.Laws.{bit-none, bit-union, bit-both, no-bits}
 use Rattle.sets.proofs.Members.{bit-element}
-use Rattle.search.specs.Search.{Marked}
-use Rattle.picture.specs.Matched.{Spans, labelled, NodesStand}
-use Rattle.picture.specs.Rows.{nodeOf}
+use Rattle.search.specs.Kept.Search.{Marked}
+use Rattle.picture.specs.Kept.Matched.{Spans, labelled, NodesStand}
+use Rattle.picture.specs.Kept.Rows.{nodeOf}
 use Rattle.picture.proofs.Spanning.{spans-then}
 
 elements-some : (s : ℕ) → ((i : ℕ) → bit s i ≡ true → i < 64) → (s ≡ 0 → ⊥) → 0 < length (elements s)

@@ -7,11 +7,11 @@ use native.Mathlib.Omega.{arith}
 use lib.ListN.{length, length-append}
 use Rattle.decimal.specs.Decimal.{decimal}
 use Rattle.decimal.proofs.Putting.{Puts, puts-none, puts-then}
-use Rattle.sets.specs.Sets.{alone, less, least, elements}
+use Rattle.sets.specs.Kept.Sets.{alone, less, least, elements}
 use Rattle.sets.proofs.Members.{elements-none, taken-elements, taken-fits}
 use Rattle.picture.specs.Picture.{edge}
 use Rattle.picture.specs.Text.{labels, edgeLine}
-use Rattle.picture.specs.Rows.{edgesOf, edgeRow, pairRow}
+use Rattle.picture.specs.Kept.Rows.{edgesOf, edgeRow, pairRow}
 
 -- What a row is, at the least member i of a set, where t is what is left of the set
 

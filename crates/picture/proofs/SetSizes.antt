@@ -16,7 +16,7 @@ use Rattle.common.proofs.Members.{upTo-below}
 use Rattle.common.proofs.Sums.{sum-next, sum-those, sum-constant}
 use Rattle.decimal.specs.Decimal.{decimal}
 use Rattle.decimal.proofs.Putting.{one-digit, two-digits-are}
-use Rattle.sets.specs.Sets.{lowered, elements}
+use Rattle.sets.specs.Kept.Sets.{lowered, elements}
 use Rattle.sets.proofs.Digits.{num, bit-suc, mod-num, half-below}
 use Rattle.sets.proofs.Laws.{bit-lowered}
 use Rattle.sets.proofs.Members.{length-elements}

@@ -15,11 +15,11 @@ use Rattle.common.proofs.Bools.{by-cases, true-false}
 use Rattle.sets.proofs.Laws.{bit-none}
 use Rattle.sheet.specs.declared.index.Sheet.{Sheet}
 use Rattle.sheet.specs.Model.{Model}
-use Rattle.sheet.specs.Index.{Indexes}
+use Rattle.sheet.specs.Kept.Indexed.{Indexes}
 use Rattle.sheet.specs.Parse.{parse}
 use Rattle.sheet.proofs.Indexed.{indexes-valid}
 use Rattle.plan.specs.Groups.{Grouping, groupCount, groupsOf}
-use Rattle.plan.specs.Partition.{NeededBy}
+use Rattle.plan.specs.Kept.Partition.{NeededBy}
 use Rattle.plan.proofs.GroupLoops.{few-groups}
 use Rattle.plan.proofs.PlanAnswers.{own-numbers}
 use Rattle.plan.proofs.Planning.{length-groupsOf}
@@ -27,7 +27,7 @@ use Rattle.plan.proofs.SheetNumbers.{numbers-small}
 use Rattle.picture.specs.Picture.{Edge, edgesBy, namedBy, pictureOf}
 use Rattle.picture.specs.Text.{textOf}
 use Rattle.picture.specs.Graph.{fitted, graphReply}
-use Rattle.picture.specs.Shown.{Shows, shown}
+use Rattle.picture.specs.Kept.Shown.{Shows, shown}
 use Rattle.picture.proofs.Edges.{edgesBy-cong}
 
 module _ {s : List ℕ} {x : Sheet} {m : Model} (i : Indexes s x m) where

@@ -16,7 +16,7 @@ use Rattle.common.proofs.Lists.{filter-cong}
 use Rattle.common.proofs.Members.{mem-getD, upTo-below}
 use Rattle.common.proofs.Sums.{flatMap-cong, flatMap-map, flatMap-flatMap}
 use Rattle.decimal.specs.Decimal.{startsWith}
-use Rattle.sets.specs.Sets.{elements}
+use Rattle.sets.specs.Kept.Sets.{elements}
 use Rattle.sets.proofs.Laws.{bit-none}
 use Rattle.plan.specs.Groups.{groupCount, members}
 use Rattle.plan.proofs.Groups.{highest-group}
@@ -24,9 +24,9 @@ use Rattle.plan.proofs.Named.{group-below-count}
 use Rattle.plan.proofs.ModeDigits.{member-of, member-below}
 use Rattle.picture.specs.Picture.{edge, edgesBy}
 use Rattle.picture.specs.Text.{firstLine, lastLine, nodeLine, edgeLine, textOf}
-use Rattle.picture.specs.Shown.{shown, Shown}
-use Rattle.picture.specs.Matched.{Spans, labelled, NodesStand, EdgesStand}
-use Rattle.picture.specs.Rows.{nodeOf, edgesOf}
+use Rattle.picture.specs.Kept.Shown.{shown, Shown}
+use Rattle.picture.specs.Kept.Matched.{Spans, labelled, NodesStand, EdgesStand}
+use Rattle.picture.specs.Kept.Rows.{nodeOf, edgesOf}
 use Rattle.picture.proofs.Rising.{those-below}
 use Rattle.picture.proofs.Spanning.{spans-then, spans-bytes, spans-whole}
 

@@ -13,7 +13,7 @@ use Rattle.common.specs.Lists.{upTo}
 use Rattle.common.proofs.Sums.{flatMap-upTo-suc, flatMap-upTo-add}
 use Rattle.decimal.specs.Decimal.{startsWith, decimal, readNumber}
 use Rattle.decimal.proofs.Exact.{starts-own, starts-rest, read-stands}
-use Rattle.picture.specs.Matched.{Spans}
+use Rattle.picture.specs.Kept.Matched.{Spans}
 
 pub starts-there : (bytes more : List ℕ) {text : List ℕ} → text ≡ bytes ++ more → startsWith bytes text ≡ true
 starts-there bytes more e = rw e (starts-own bytes more)

@@ -14,14 +14,14 @@ use Rattle.common.proofs.Bools.{false-of-not-true, and-left}
 use Rattle.common.proofs.Lists.{filter-cong}
 use Rattle.common.proofs.Members.{upTo-below}
 use Rattle.common.proofs.Sums.{flatMap-flatMap, flatMap-map, flatMap-cong}
-use Rattle.sets.specs.Sets.{elements}
+use Rattle.sets.specs.Kept.Sets.{elements}
 use Rattle.plan.specs.Groups.{members}
-use Rattle.plan.specs.Partition.{MemberSets}
+use Rattle.plan.specs.Kept.Partition.{MemberSets}
 use Rattle.plan.proofs.ModeDigits.{filter-skip}
 use Rattle.picture.specs.Picture.{Edge, edge, edgesBy, pictureBytes}
 use Rattle.picture.specs.Text.{firstLine, lastLine, nodeLine, edgeLine, textOf}
-use Rattle.picture.specs.Rows.{nodeOf, edgesOf, nodeRow, pairRow, rowsUpto, rowsOf, textRows}
-use Rattle.picture.specs.Shown.{Shows, shown}
+use Rattle.picture.specs.Kept.Rows.{nodeOf, edgesOf, nodeRow, pairRow, rowsUpto, rowsOf, textRows}
+use Rattle.picture.specs.Kept.Shown.{Shows, shown}
 
 -- none of those from n on
 filter-past : (p : ℕ → Bool) (n d : ℕ) → ((k : ℕ) → n ≤ k → p k ≡ false) → filter p (upTo (n + d)) ≡ filter p (upTo n)

@@ -12,14 +12,14 @@ use lib.ListN.{length, getD}
 use Rattle.common.specs.Bits.{bit}
 use Rattle.common.specs.Lists.{upTo, all}
 use Rattle.common.proofs.Bools.{by-cases, bool-ext, or-left, or-right, or-cases}
-use Rattle.sets.specs.Sets.{union, less, least}
+use Rattle.sets.specs.Kept.Sets.{union, less, least}
 use Rattle.sets.proofs.Laws.{bit-none, bit-union, bit-less, less-from}
-use Rattle.search.specs.Search.{Union}
+use Rattle.search.specs.Kept.Search.{Union}
 use Rattle.plan.specs.Groups.{groupOf}
-use Rattle.plan.specs.Partition.{MemberSets}
+use Rattle.plan.specs.Kept.Partition.{MemberSets}
 use Rattle.plan.proofs.Named.{group-below-count}
 use Rattle.picture.specs.Reading.{inTurn}
-use Rattle.picture.specs.Shown.{shown, Shows}
+use Rattle.picture.specs.Kept.Shown.{shown, Shows}
 use Rattle.picture.proofs.ReadySets.{number-fits, turn-is, TurnsFrom, turns-none, turn-waits, turns-next, turn-fails}
 use Rattle.picture.proofs.TurnSets.{MachinesIn, no-machines, machines-joined, machines-without, members-are}
 use Rattle.picture.proofs.TurnSets.{union-is, turn-by-set}

@@ -12,13 +12,13 @@ use Rattle.common.specs.Bits.{bit}
 use Rattle.common.proofs.Bools.{by-cases, bool-ext, true-false, and-intro, and-left, and-right}
 use Rattle.common.proofs.Lists.{any-intro, any-some}
 use Rattle.common.proofs.Search.{find-upTo-is, find-upTo-none}
-use Rattle.sets.specs.Sets.{union, less, least, elements}
+use Rattle.sets.specs.Kept.Sets.{union, less, least, elements}
 use Rattle.sets.proofs.Laws.{bit-none, bit-union, bit-less}
 use Rattle.sets.proofs.Members.{least-before, least-member, bit-element, element-bit}
-use Rattle.search.specs.Search.{Union}
+use Rattle.search.specs.Kept.Search.{Union}
 use Rattle.plan.specs.Groups.{groupOf}
-use Rattle.plan.specs.Partition.{MemberSets}
-use Rattle.picture.specs.Turns.{readyIn, firstReady, turnOf}
+use Rattle.plan.specs.Kept.Partition.{MemberSets}
+use Rattle.picture.specs.Kept.Turns.{readyIn, firstReady, turnOf}
 
 -- the machines whose group is so
 pub record MachinesIn (numbers : List ℕ) (q : ℕ → Bool) (s : ℕ) : Type 0 where

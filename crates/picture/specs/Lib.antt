@@ -1,10 +1,7 @@
 pub mod Drawn
 pub mod Examples
 pub mod Graph
-pub mod Matched
+pub mod Kept
 pub mod Picture
 pub mod Reading
-pub mod Rows
-pub mod Shown
 pub mod Text
-pub mod Turns

@@ -19,13 +19,13 @@ ghost use Prim.Native.Nat.{_≤_};
 ghost use lib.ListN.{length};
 ghost use Rattle.common.specs.Reply.{lengthOf, outputAfter};
 ghost use Rattle.sheet.specs.Model.{Model};
-ghost use Rattle.sheet.specs.Index.{Indexed, Indexes};
-ghost use Rattle.plan.specs.Measured.{measuredOf};
+ghost use Rattle.sheet.specs.Kept.Indexed.{Indexed, Indexes};
+ghost use Rattle.plan.specs.Answers.{measuredOf};
 ghost use Rattle.picture.specs.Picture.{pictureOf, pictureBytes};
 ghost use Rattle.picture.specs.Text.{textOf};
 ghost use Rattle.picture.specs.Graph.{fitted, graphReply, readReply};
-ghost use Rattle.picture.specs.Rows.{textRows};
-ghost use Rattle.picture.specs.Shown.{Shows, shown, Shown};
+ghost use Rattle.picture.specs.Kept.Rows.{textRows};
+ghost use Rattle.picture.specs.Kept.Shown.{Shows, shown, Shown};
 
 // Writes the text of a picture by the machines and the targets of each group, if it fits: 12.
 fn write_rows(out: &mut [u8], members: &[u64], targets: &[u64]) -> Length
@@ -91,7 +91,7 @@ fn draw_read(file: &[u8], sheet: Sheet, out: &mut [u8]) -> Length
         ≡ outputAfter (fitted (textOf (pictureOf m)) (length (now (out .entry)))) (now (out .entry))) ⌝ }
 {
     let n = sheet.machines;
-    let mut targets = [0u64; 32];
+    let mut targets = [0u64; Sheet::MACHINES];
     let numbers = plan::grouping::ordered(file, sheet, &mut targets);
     let groups = count(&numbers[..n]);
     write_text(out, &numbers[..n], &targets[..groups])

@@ -5,8 +5,8 @@ ghost use Prim.Native.Nat.{ℕ, _≤_, _<_};
 ghost use lib.ListN.{length};
 ghost use Rattle.common.specs.Lists.{sum};
 ghost use Rattle.decimal.specs.Decimal.{decimal};
-ghost use Rattle.sets.specs.Sets.{elements};
-ghost use Rattle.picture.specs.Rows.{nodeRow, edgeRow, pairRow};
+ghost use Rattle.sets.specs.Kept.Sets.{elements};
+ghost use Rattle.picture.specs.Kept.Rows.{nodeRow, edgeRow, pairRow};
 
 // How many members a set has.
 fn size(set: u64) -> usize

@@ -5,11 +5,11 @@ ghost use mathlib.Core.List.{_∷_, []};
 ghost use Prim.Native.Nat.{_+_, _≤_, _<_};
 ghost use lib.ListN.{length};
 ghost use Rattle.decimal.specs.Decimal.{decimal};
-ghost use Rattle.sets.specs.Sets.{elements};
-ghost use Rattle.plan.specs.Written.{written};
+ghost use Rattle.sets.specs.Kept.Sets.{elements};
+ghost use Rattle.plan.specs.Kept.Written.{written};
 ghost use Rattle.picture.specs.Picture.{edge};
 ghost use Rattle.picture.specs.Text.{lineStart, labels, edgeLine};
-ghost use Rattle.picture.specs.Rows.{nodeRow, edgeRow, pairRow};
+ghost use Rattle.picture.specs.Kept.Rows.{nodeRow, edgeRow, pairRow};
 
 // Writes bytes at a place, and gives the place behind them.
 pub fn put(out: &mut [u8], at: usize, bytes: &[u8]) -> usize

@@ -2,6 +2,7 @@
 use decimal::text::has;
 use decimal::text::stands;
 use search::mark;
+use sheet::index::Sheet;
 ghost use mathlib.Core.Path.{_≡_};
 ghost use mathlib.Core.List.{[], _∷_, _++_};
 ghost use mathlib.Core.Bool.{true, false, not, _&&_};
@@ -9,12 +10,12 @@ ghost use Prim.Native.Nat.{_+_, _≤_, _<_};
 ghost use lib.Dec.{eqb, ltb};
 ghost use lib.ListN.{length, getD, take, drop};
 ghost use Rattle.decimal.specs.Decimal.{startsWith};
-ghost use Rattle.sets.specs.Sets.{both, lowered};
+ghost use Rattle.sets.specs.Kept.Sets.{both, lowered};
 ghost use Rattle.picture.specs.Text.{lastLine, lineStart};
-ghost use Rattle.picture.specs.Matched.{NoPicture, NumberFound, LabelFound, NodeFound, NodesFound};
-ghost use Rattle.picture.specs.Rows.{labelStart, arrow};
-ghost use Rattle.picture.specs.Matched.{RowFound, EdgesFound, Gapless, TextFound};
-ghost use Rattle.picture.specs.Shown.{Shown};
+ghost use Rattle.picture.specs.Kept.Matched.{NoPicture, NumberFound, LabelFound, NodeFound, NodesFound};
+ghost use Rattle.picture.specs.Kept.Rows.{labelStart, arrow};
+ghost use Rattle.picture.specs.Kept.Matched.{RowFound, EdgesFound, Gapless, TextFound};
+ghost use Rattle.picture.specs.Kept.Shown.{Shown};
 
 // A number and the place behind it.
 pub struct Number {
@@ -59,8 +60,8 @@ pub struct Counts {
 pub struct Found {
     pub machines: usize,
     pub groups: usize,
-    pub numbers: [u8; 64],
-    pub targets: [u64; 32],
+    pub numbers: [u8; sets::NUMBERS],
+    pub targets: [u64; Sheet::MACHINES],
 }
 
 // The number is below n, and above all of a set.
@@ -324,8 +325,8 @@ pub fn matched(text: &[u8]) -> Found
     ensures other { λ r. ⌜ (r .machines ≡ 0 → NoPicture (now (text .entry))) ⌝ }
     ensures small { λ r. ⌜ (r .machines ≤ 32) × (r .groups ≤ 32) ⌝ }
 {
-    let mut numbers = [0u8; 64];
-    let mut targets = [0u64; 32];
+    let mut numbers = [0u8; sets::NUMBERS];
+    let mut targets = [0u64; Sheet::MACHINES];
     let counts = read_text(text, &mut numbers[..], &mut targets[..]);
     Found {
         machines: counts.machines,

@@ -10,10 +10,10 @@ ghost use lib.ListN.{length, getD};
 ghost use lib.Dec.{eqb};
 ghost use Rattle.common.specs.Bits.{bit};
 ghost use Rattle.common.specs.Lists.{upTo, all};
-ghost use Rattle.sets.specs.Sets.{least};
-ghost use Rattle.search.specs.Search.{Union};
+ghost use Rattle.sets.specs.Kept.Sets.{least};
+ghost use Rattle.search.specs.Kept.Search.{Union};
 ghost use Rattle.picture.specs.Reading.{inTurn};
-ghost use Rattle.picture.specs.Shown.{Shows, shown};
+ghost use Rattle.picture.specs.Kept.Shown.{Shows, shown};
 
 // The machines of some groups, by the machines of each.
 fn machines_of(members: &[u64], groups: u64) -> u64

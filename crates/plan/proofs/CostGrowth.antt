@@ -13,7 +13,7 @@ use Rattle.common.proofs.Bools.{by-cases}
 use Rattle.common.proofs.Members.{upTo-below, getD-map-upTo, getD-map-upTo-past}
 use Rattle.common.proofs.Snoc.{built-map}
 use Rattle.common.proofs.Sums.{sum-mono}
-use Rattle.plan.specs.CostSets.{moveCost, costWith, costsWith, boundWith}
+use Rattle.plan.specs.Kept.CostSets.{moveCost, costWith, costsWith, boundWith}
 
 module _ (longest : ℕ → ℕ) (named : ℕ → List ℕ) where
   -- the cost of group k when it is computed

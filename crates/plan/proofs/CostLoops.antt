@@ -14,9 +14,9 @@ use Rattle.common.proofs.Lists.{map-cong, length-filter}
 use Rattle.common.proofs.Members.{length-upTo, length-map-upTo}
 use Rattle.common.proofs.Pad.{getD-pad, set-pad, pad-nil}
 use Rattle.common.proofs.Sums.{sum-append, sum-mono, sum-constant}
-use Rattle.sets.specs.Sets.{alone, less, least, elements}
+use Rattle.sets.specs.Kept.Sets.{alone, less, least, elements}
 use Rattle.sets.proofs.Members.{elements-none, taken-elements, taken-fits}
-use Rattle.plan.specs.CostSets.{cappedCost, moveCost, costWith, costsWith, boundWith, boundBySets}
+use Rattle.plan.specs.Kept.CostSets.{cappedCost, moveCost, costWith, costsWith, boundWith, boundBySets}
 use Rattle.plan.proofs.Caps.{cap-rule}
 use Rattle.plan.proofs.CostGrowth.{costs-map}
 

@@ -5,12 +5,12 @@ use mathlib.Core.Path.{_≡_, refl, sym, ap, _∙_}
 use mathlib.Core.List.{List, [], map, List·Memᴰ}
 use mathlib.Core.Bool.{true}
 use native.Mathlib.Omega.{arith}
-use lib.ListN.{length, getD}
+use lib.ListN.{getD}
 use Rattle.common.specs.Lists.{upTo, sum}
 use Rattle.common.specs.Graph.{Matrix}
 use Rattle.common.proofs.Lists.{map-cong}
 use Rattle.common.proofs.Members.{upTo-below}
-use Rattle.common.proofs.Snoc.{built-map, built-length, built-at}
+use Rattle.common.proofs.Snoc.{built-map, built-at}
 use Rattle.sheet.specs.Model.{Model}
 use Rattle.plan.specs.Groups.{Grouping, groupCount, movesOf, namedOutside}
 use Rattle.plan.specs.Reading.{needsFirst}
@@ -26,10 +26,6 @@ module _ (m : Model) (groups : Grouping) (counting : ℕ → List ℕ) (routes :
   pub costsUpto-map : (k : ℕ) → costsUpto m groups counting routes k ≡ map costNext (upTo k)
   unfolding costsUpto
   costsUpto-map = built-map (costsUpto m groups counting routes) costNext refl (λ k. refl)
-
-  pub costsUpto-length : (k : ℕ) → length (costsUpto m groups counting routes k) ≡ k
-  unfolding costsUpto
-  costsUpto-length = built-length (costsUpto m groups counting routes) costNext refl (λ k. refl)
 
   pub costsUpto-at : {a k : ℕ} → a < k → getD (costsUpto m groups counting routes k) a 0 ≡ costNext a
   unfolding costsUpto

@@ -17,7 +17,7 @@ use Rattle.common.proofs.Members.{mem-index}
 use Rattle.common.proofs.Search.{find-none, find-upTo-below, find-upTo-is, find-upTo-none}
 use Rattle.common.proofs.Sums.{sum-append, maximum-is-least}
 use Rattle.plan.specs.Groups.{Grouping, groupOf, groupCount, smallestMember}
-use Rattle.plan.specs.Sizes.{SmallNumbers, firstLarge, entriesOf}
+use Rattle.plan.specs.Kept.Sizes.{SmallNumbers, firstLarge, entriesOf}
 
 -- How many groups
 

@@ -18,13 +18,13 @@ use Rattle.common.proofs.Bools.{and-intro, and-left, and-right, or-left, or-rig
 use Rattle.common.proofs.Lists.{any-intro, any-some}
 use Rattle.common.proofs.Members.{upTo-below}
 use Rattle.common.proofs.Search.{find-cong}
-use Rattle.sets.specs.Sets.{less, elements}
+use Rattle.sets.specs.Kept.Sets.{less, elements}
 use Rattle.sets.proofs.Laws.{bit-none, bit-less, no-bits}
 use Rattle.sets.proofs.Members.{bit-element, element-bit}
-use Rattle.search.specs.Search.{Holds}
+use Rattle.search.specs.Kept.Search.{Holds}
 use Rattle.search.proofs.Between.{successor-bit, bit-successor, reached-connected, reached-node}
 use Rattle.plan.specs.Groups.{Grouping}
-use Rattle.plan.specs.MachineSets.{ReachSets, MutualSets, readyBy, nextGroup, Grouped}
+use Rattle.plan.specs.Kept.MachineSets.{ReachSets, MutualSets, readyBy, nextGroup, Grouped}
 use Rattle.plan.proofs.Together.{connected-nodes, joined, joined-there, joined-back, there-back}
 use Rattle.plan.proofs.Together.{given, isReady, ready-open, ready-needed, needed-ready}
 

@@ -21,8 +21,8 @@ use Rattle.plan.specs.Modes.{size}
 use Rattle.plan.specs.Bytes.{tableLength, tableAt, planLength}
 use Rattle.plan.specs.Promised.{SmallGroups, squares}
 use Rattle.plan.specs.Planning.{large, largeGroup, largePlace, sizeFaults}
-use Rattle.plan.specs.Sizes.{capped, cappedSizes, firstLarge, entriesOf}
-use Rattle.plan.specs.Measured.{lengthWith}
+use Rattle.plan.specs.Kept.Sizes.{capped, cappedSizes, firstLarge, entriesOf}
+use Rattle.plan.specs.Kept.Making.{lengthWith}
 use Rattle.plan.proofs.CappedSizes.{capped-small, capped-test}
 use Rattle.plan.proofs.Limits.{no-large-group}
 use Rattle.plan.proofs.Replies.{plan-large, plan-small}

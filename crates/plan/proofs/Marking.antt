@@ -13,11 +13,11 @@ use lib.Seq.{getD-take, ext-getD}
 use Rattle.common.specs.Bits.{bit}
 use Rattle.common.specs.Graph.{Graph, distances}
 use Rattle.common.proofs.Bools.{by-cases, true-false, cond-true, cond-false}
-use Rattle.sets.specs.Sets.{union}
+use Rattle.sets.specs.Kept.Sets.{union}
 use Rattle.sets.proofs.Laws.{bit-none, bit-union}
-use Rattle.search.specs.Search.{Marked}
+use Rattle.search.specs.Kept.Search.{Marked}
 use Rattle.plan.specs.Groups.{numbered, numberedUpto}
-use Rattle.plan.specs.MachineSets.{nextGroup, Grouped}
+use Rattle.plan.specs.Kept.MachineSets.{nextGroup, Grouped}
 use Rattle.plan.proofs.Together.{joined, joined-self, given}
 use Rattle.plan.proofs.Rounds.{numberAt, firstAt, length-round, number-start, number-next, number-stays}
 use Rattle.plan.proofs.Rounds.{given-below, open-above, below-given, above-open}

@@ -8,7 +8,7 @@ use lib.ListN.{length, getD}
 use Rattle.sheet.specs.declared.index.Sheet.{Sheet}
 use Rattle.sheet.specs.Record.{byte, bodyAt}
 use Rattle.sheet.specs.Model.{Model, machineCount, moveCount, moveAt, moveOf}
-use Rattle.sheet.specs.Index.{Indexes}
+use Rattle.sheet.specs.Kept.Indexed.{Indexes}
 use Rattle.sheet.proofs.Indexed.{BodyStands, indexes-valid, indexes-moves, indexes-body}
 
 module _ {s : List ℕ} {x : Sheet} {m : Model} (i : Indexes s x m) {v : ℕ} (h : v < x .moves) where

@@ -7,15 +7,15 @@ use mathlib.Core.List.{List}
 use native.Mathlib.Omega.{arith}
 use borrow.Author.Tests.{ne-eqb}
 use lib.ListN.{length, getD, set}
-use Rattle.sets.specs.Sets.{alone, union, less}
+use Rattle.sets.specs.Kept.Sets.{alone, union, less}
 use Rattle.sets.proofs.Laws.{bit-none, bit-less, bit-alone}
 use Rattle.sheet.specs.declared.index.Sheet.{Sheet}
 use Rattle.sheet.specs.Record.{byte, bodyAt}
 use Rattle.sheet.specs.Model.{Move, Model, moveAt, moveOf}
-use Rattle.sheet.specs.Index.{Indexes}
+use Rattle.sheet.specs.Kept.Indexed.{Indexes}
 use Rattle.sheet.proofs.Indexed.{indexes-valid, indexes-machines, indexes-moves}
 use Rattle.plan.specs.Groups.{Grouping, groupOf}
-use Rattle.plan.specs.Partition.{Numbers, NamesIn, OutsideNamed, NamedSets}
+use Rattle.plan.specs.Kept.Partition.{Numbers, NamesIn, OutsideNamed, NamedSets}
 use Rattle.plan.proofs.GroupLoops.{few-groups}
 use Rattle.plan.proofs.SheetNumbers.{numbers-small}
 use Rattle.plan.proofs.MoveTurns.{turn-move, turn-machine, turn-machine-below}

@@ -20,13 +20,13 @@ use Rattle.common.proofs.Lists.{any-intro, any-some, any-fails, filter-mem, fil
 use Rattle.common.proofs.Members.{upTo-mem, upTo-below}
 use Rattle.common.proofs.Pad.{getD-zeros}
 use Rattle.common.proofs.Snoc.{any-snoc}
-use Rattle.sets.specs.Sets.{union}
+use Rattle.sets.specs.Kept.Sets.{union}
 use Rattle.sets.proofs.Laws.{bit-none}
 use Rattle.sets.proofs.Joined.{bit-joined}
 use Rattle.sheet.specs.Model.{Model, machineCount, moveCount, moveAt}
 use Rattle.sheet.specs.Valid.{Valid}
 use Rattle.plan.specs.Groups.{Grouping, groupOf, groupCount, movesOf, namesGroup, namedOutside}
-use Rattle.plan.specs.Partition.{OutsideNamed, countedMoves, NamedSets}
+use Rattle.plan.specs.Kept.Partition.{OutsideNamed, countedMoves, NamedSets}
 use Rattle.plan.proofs.Named.{group-below-count, moves-in, moves-below, moves-group, guard-valid, moves-mem}
 use Rattle.plan.proofs.Named.{named-in, named-below, named-other, named-by}
 

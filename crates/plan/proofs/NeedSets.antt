@@ -19,18 +19,18 @@ use Rattle.common.proofs.Lists.{any-intro, any-some}
 use Rattle.common.proofs.Members.{mem-getD}
 use Rattle.common.proofs.Pad.{getD-zeros}
 use Rattle.common.proofs.Snoc.{any-snoc}
-use Rattle.sets.specs.Sets.{union}
+use Rattle.sets.specs.Kept.Sets.{union}
 use Rattle.sets.proofs.Laws.{bit-none}
 use Rattle.sets.proofs.Joined.{bit-joined}
-use Rattle.search.specs.Search.{Holds}
+use Rattle.search.specs.Kept.Search.{Holds}
 use Rattle.sheet.specs.declared.index.Sheet.{Sheet}
 use Rattle.sheet.specs.Record.{byte, bodyAt}
 use Rattle.sheet.specs.Model.{Move, Model, machineCount, moveCount, moveAt, noMove, moveOf}
 use Rattle.sheet.specs.Valid.{Valid}
-use Rattle.sheet.specs.Index.{Indexes}
+use Rattle.sheet.specs.Kept.Indexed.{Indexes}
 use Rattle.sheet.proofs.Indexed.{indexes-valid}
 use Rattle.plan.specs.Needs.{names, needs, needGraph}
-use Rattle.plan.specs.MachineSets.{NamedIn}
+use Rattle.plan.specs.Kept.MachineSets.{NamedIn}
 use Rattle.plan.proofs.Named.{move-valid, guard-valid}
 use Rattle.plan.proofs.Words.{needs-means}
 use Rattle.plan.proofs.Needs.{length-needGraph, need-successor, successor-need}

@@ -14,13 +14,13 @@ use Rattle.common.specs.Lists.{upTo, any}
 use Rattle.common.proofs.Bools.{true-false, false-of-not-true, bool-ext}
 use Rattle.common.proofs.Lists.{all-at, all-intro, any-intro, any-some}
 use Rattle.common.proofs.Members.{upTo-mem, upTo-below}
-use Rattle.sets.specs.Sets.{lowered}
+use Rattle.sets.specs.Kept.Sets.{lowered}
 use Rattle.sets.proofs.Laws.{bit-none, bit-lowered, no-bits}
 use Rattle.sheet.specs.Model.{Guard, Model, machineCount, moveCount, moveAt}
 use Rattle.sheet.specs.Valid.{Valid}
 use Rattle.plan.specs.Groups.{Grouping, groupOf, groupCount, movesOf, namedOutside}
 use Rattle.plan.specs.Reading.{needsFirst}
-use Rattle.plan.specs.Outline.{lowerNamed}
+use Rattle.plan.specs.Kept.Outline.{lowerNamed}
 use Rattle.plan.proofs.Named.{group-below-count, moves-in, moves-below, moves-group, named-by}
 use Rattle.plan.proofs.Named.{named-lower, named-of-move, guard-inside-or-named}
 use Rattle.plan.proofs.Words.{first-means}

@@ -18,12 +18,12 @@ use Rattle.common.proofs.Least.{eqb-swap}
 use Rattle.common.proofs.Lists.{all-at, all-intro, any-some, any-fails, covers-length}
 use Rattle.common.proofs.Members.{mem-index, upTo-mem, upTo-below}
 use Rattle.common.proofs.Snoc.{any-snoc}
-use Rattle.sets.specs.Sets.{below}
+use Rattle.sets.specs.Kept.Sets.{below}
 use Rattle.sets.proofs.Digits.{same-bits}
 use Rattle.sets.proofs.Laws.{bit-none, bit-first}
 use Rattle.plan.specs.Groups.{Grouping, groupCount}
 use Rattle.plan.specs.Reading.{gapless}
-use Rattle.plan.specs.Outline.{Used}
+use Rattle.plan.specs.Kept.Outline.{Used}
 use Rattle.plan.proofs.Named.{group-below-count}
 
 -- The loop: the first i numbers are in the set r

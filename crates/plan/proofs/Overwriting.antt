@@ -2,13 +2,12 @@
 -- second piece behind it makes a longer one.
 -- Assumes nothing.
 use Prim.Native.Nat.{ℕ, _+_, _≤_}
-use mathlib.Core.Path.{_≡_, refl, sym, ap, ap₂, _∙_}
+use mathlib.Core.Path.{_≡_, sym, ap, ap₂, _∙_}
 use mathlib.Core.List.{List, [], _++_, append-assoc}
 use native.Mathlib.Omega.{arith}
 use lib.ListN.{length, take, drop, length-append, length-drop, take-append-drop}
-use lib.Seq.{length-take-le, take-append-le, take-take, take-at, drop-at, drop-drop}
-use Rattle.common.proofs.Places.{Stands}
-use Rattle.plan.specs.Written.{written}
+use lib.Seq.{length-take-le, take-at, drop-at, drop-drop}
+use Rattle.plan.specs.Kept.Written.{written}
 
 pub written-none : (at : ℕ) (s : List ℕ) → s ≡ written at [] s
 unfolding written
@@ -28,16 +27,6 @@ module _ (at : ℕ) (piece s : List ℕ) (h : at ≤ length s) where
 
   pub written-behind : drop (at + length piece) (written at piece s) ≡ drop (at + length piece) s
   written-behind = rw regrouped (drop-at (take at s ++ piece) _ _ front-length)
-
-  -- what stands before it stays
-  pub written-before : (n : ℕ) → n ≤ at → take n (written at piece s) ≡ take n s
-  unfolding written
-  written-before n l =
-      take-append-le n (take at s) _ (omega (arith, length-take-le at s h)) ∙ take-take n at s l
-
-  pub written-stands : Stands (written at piece s) at piece
-  unfolding written
-  written-stands = record { before = take at s; after = _; whole = refl; place = length-take-le at s h }
 
   -- a second piece right behind it
   pub written-more : (more : List ℕ) {next : ℕ} → next ≡ at + length piece

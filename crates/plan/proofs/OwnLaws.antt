@@ -9,7 +9,7 @@ use lib.ListN.{getD}
 use Rattle.sheet.specs.Model.{Model, moveCount, moveAt}
 use Rattle.plan.specs.Groups.{Grouping, groupOf, groupCount, movesOf, namedOutside}
 use Rattle.plan.specs.Modes.{size, liveMode}
-use Rattle.plan.specs.Usable.{meets, leads, target}
+use Rattle.plan.specs.Usable.{meets, leads, endMode}
 use Rattle.plan.specs.Reading.{groupsIn, entryAt, boundIn, wellShaped}
 use Rattle.plan.specs.Routes.{usableMoves}
 use Rattle.plan.specs.Table.{entryOf}
@@ -19,7 +19,7 @@ use Rattle.plan.specs.Laws.{TableLaws, RouteLaws, CostLaws, PlanLaws, co
 use Rattle.plan.proofs.Named.{named-below}
 use Rattle.plan.proofs.Routes.{allRoutes}
 use Rattle.plan.proofs.Words.{live-means, meets-means, named-means}
-use Rattle.plan.proofs.Steps.{target-step, step-own, step-leads, step-target}
+use Rattle.plan.proofs.Steps.{endMode-step, step-own, step-leads, step-endMode}
 use Rattle.plan.proofs.Usable.{Ordered, stays-live}
 use Rattle.plan.proofs.Distances.{route-append, route-zero, between-longest}
 use Rattle.plan.proofs.Entries.{entry-near, near-of-distance, entry-route, entry-at-most, entry-connects}
@@ -116,13 +116,13 @@ module _ (m : Model) (plan : List ℕ) (reads : ReadsBack m (groupsIn m plan) pl
   own-first : (k p q d : ℕ) → k < groupCount own → p < size m own k → q < size m own k → IsDistance m plan k p q (suc d)
       → List·Memᴰ (entryAt m plan k p q .move) (movesOf m own k) × Usable m own (entryAt m plan k p q .move)
       × (leads m own k (moveAt m (entryAt m plan k p q .move)) p ≡ true)
-      × (entryAt m plan k (target m own k (moveAt m (entryAt m plan k p q .move)) p) q .distance ≤ d)
+      × (entryAt m plan k (endMode m own k (moveAt m (entryAt m plan k p q .move)) p) q .distance ≤ d)
   own-first k p q d h hp hq i =
       let (u, (r, s, on)) = entries k p q h hp hq .first d (i .0) (λ e. omega arith) in (
         step-own m (o .valid) own (o .all-machines) s,
         u,
         step-leads m (o .valid) own (o .all-machines) s,
-        rw (step-target m (o .valid) own (o .all-machines) s) (own-at-most m own plan reads k r q h (s .wanted) hq on),
+        rw (step-endMode m (o .valid) own (o .all-machines) s) (own-at-most m own plan reads k r q h (s .wanted) hq on),
       )
 
   table-laws : TableLaws m plan (Usable m own) (longestOf m own)
@@ -141,7 +141,7 @@ module _ (m : Model) (plan : List ℕ) (reads : ReadsBack m (groupsIn m plan) pl
   route-laws =
       record {
         move-connects = λ k p v h hp l u t.
-            let s = target-step m (o .valid) own (o .all-machines) k l hp t in
+            let s = endMode-step m (o .valid) own (o .all-machines) k l hp t in
             own-connects m own plan reads k p _ h hp (s .wanted) (move v _ u s here);
         connects-compose = λ k p q r h hp hq hr i j.
             own-connects m own plan reads k p r h hp hr (route-append (route k p q h hp hq i) (route k q r h hq hr j));

@@ -21,17 +21,19 @@ use Rattle.sheet.specs.Record.{part, bodyAt}
 use Rattle.sheet.specs.Model.{Model, machineCount}
 use Rattle.sheet.specs.Valid.{Valid}
 use Rattle.sheet.specs.Parse.{Parsed, parse}
-use Rattle.sheet.specs.Index.{indexOf, Indexes}
+use Rattle.sheet.specs.Index.{indexOf}
+use Rattle.sheet.specs.Kept.Indexed.{Indexes}
 use Rattle.sheet.proofs.Indexed.{indexes-valid, indexes-machines}
 use Rattle.plan.specs.declared.partition.Groups.{Groups}
 use Rattle.plan.specs.declared.opening.Outline.{Outline}
 use Rattle.plan.specs.Groups.{groupCount}
 use Rattle.plan.specs.Promised.{SmallGroups}
-use Rattle.plan.specs.Sizes.{firstLarge}
+use Rattle.plan.specs.Kept.Sizes.{firstLarge}
 use Rattle.plan.specs.Reading.{groupsIn, hasRecord, gapless, needsFirst, fitsRecords, wellShaped}
-use Rattle.plan.specs.Partition.{Numbers, Partitioned}
-use Rattle.plan.specs.Outline.{lowerNamed, StartsAt, tablesFit, endsAt}
-use Rattle.plan.specs.Outline.{verdictSays, outlineReply, Outlined, ShapeJudged}
+use Rattle.plan.specs.Kept.Partition.{Numbers, Partitioned}
+use Rattle.plan.specs.Kept.Outline.{lowerNamed, StartsAt, tablesFit, endsAt}
+use Rattle.plan.specs.Answers.{verdictSays, outlineReply}
+use Rattle.plan.specs.Kept.Outline.{Outlined, ShapeJudged}
 use Rattle.plan.proofs.Named.{group-below-count}
 use Rattle.plan.proofs.Replies.{none-large}
 use Rattle.plan.proofs.LengthLaws.{large-tests, some-large, small}

@@ -17,7 +17,7 @@ use Rattle.sheet.proofs.Records.{whole-here, part-length}
 use Rattle.plan.specs.Groups.{groupCount}
 use Rattle.plan.specs.Bytes.{tableAt}
 use Rattle.plan.specs.Reading.{isWhole, hasRecord, gapless, groupsIn, boundIn}
-use Rattle.plan.specs.Outline.{boundAt}
+use Rattle.plan.specs.Kept.Outline.{boundAt}
 use Rattle.plan.proofs.Bytes.{shown-whole}
 
 -- what `read` answers, and the test

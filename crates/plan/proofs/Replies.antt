@@ -22,7 +22,7 @@ use Rattle.plan.specs.Promised.{SmallGroups, squares, ownBound, Replied,
 use Rattle.plan.proofs.Limits.{large-place, right-buffer, right-scratch}
 use Rattle.plan.proofs.Planning.{plan-unread, plan-accepted}
 use Rattle.plan.proofs.Planning.{plan-refused-9, plan-refused-10, plan-refused-11, plan-refused-12, plan-given}
-use Rattle.plan.proofs.Planning.{length-refused-9, length-refused-10, length-given}
+use Rattle.plan.proofs.Planning.{length-refused-9, length-refused-10, length-given, length-reported}
 
 module _ (m : Model) (groups : Grouping) where
   pub one-large : (k : ℕ) → k < groupCount groups → 64 < size m groups k → largeGroup m groups ≡ true
@@ -82,6 +82,7 @@ replied sheet d buffer scratch e =
           plan-given sheet d e buffer scratch (none-large m own s) (plan-small m own q) (bound-small m b)
           (buffers-right m own buffer scratch l r);
       reported = λ s q. length-given sheet d e (none-large m own s) (plan-small m own q);
+      as-reported = λ plan. length-reported sheet d e buffer scratch;
     }
 
 -- The scratch

@@ -17,14 +17,14 @@ use Rattle.common.proofs.Bools.{bool-ext}
 use Rattle.common.proofs.Lists.{all-intro, any-intro, any-some}
 use Rattle.common.proofs.Lists.{filter-mem, filter-from, filter-holds, filter-cong, filter-all}
 use Rattle.common.proofs.Members.{upTo-below}
-use Rattle.sets.specs.Sets.{elements}
+use Rattle.sets.specs.Kept.Sets.{elements}
 use Rattle.sets.proofs.Members.{element-bit, element-below}
 use Rattle.sheet.specs.Model.{Model}
 use Rattle.plan.specs.Groups.{Grouping, groupCount, movesOf, namedOutside}
 use Rattle.plan.specs.Bound.{longest, costIn, costsUpto, boundOf, planBound}
 use Rattle.plan.specs.Planning.{largeBound}
-use Rattle.plan.specs.CostSets.{cappedCost, moveCost, costWith, costsWith, boundWith, boundBySets}
-use Rattle.plan.specs.CostSets.{NamedSets, LongestIn, RoughIn}
+use Rattle.plan.specs.Kept.CostSets.{cappedCost, moveCost, costWith, costsWith, boundWith, boundBySets}
+use Rattle.plan.specs.Kept.CostSets.{NamedSets, LongestIn, RoughIn}
 use Rattle.plan.proofs.ModeDigits.{filter-below}
 use Rattle.plan.proofs.Routes.{allRoutes}
 use Rattle.plan.proofs.Distances.{longest-below, routes-size}

@@ -11,11 +11,11 @@ use lib.ListN.{getD}
 use Rattle.common.specs.Bits.{bit}
 use Rattle.common.proofs.Bools.{by-cases, true-false, true-of-not-false, false-of-not-true}
 use Rattle.common.proofs.Search.{find-upTo-is, find-upTo-none}
-use Rattle.sets.specs.Sets.{alone, below, less, least}
+use Rattle.sets.specs.Kept.Sets.{alone, below, less, least}
 use Rattle.sets.proofs.Laws.{bit-none, bit-alone, bit-first, bit-less, less-from, less-not, less-intro}
 use Rattle.sets.proofs.Members.{least-before, least-member, taken-fits}
-use Rattle.search.specs.Search.{Union}
-use Rattle.plan.specs.MachineSets.{Mutual, Outside, readyBy, nextGroup}
+use Rattle.search.specs.Kept.Search.{Union}
+use Rattle.plan.specs.Kept.MachineSets.{Mutual, Outside, readyBy, nextGroup}
 
 -- `mutual`: the machines taken so far, with those to come
 

@@ -6,14 +6,14 @@ use mathlib.Core.List.{List}
 use native.Mathlib.Omega.{arith}
 use lib.ListN.{take}
 use Rattle.common.specs.Graph.{distances}
-use Rattle.search.specs.Search.{Holds}
+use Rattle.search.specs.Kept.Search.{Holds}
 use Rattle.sheet.specs.declared.index.Sheet.{Sheet}
 use Rattle.sheet.specs.Model.{Model, machineCount}
-use Rattle.sheet.specs.Index.{Indexed}
+use Rattle.sheet.specs.Kept.Indexed.{Indexed}
 use Rattle.sheet.proofs.Indexed.{indexes-valid, indexes-machines}
 use Rattle.plan.specs.Needs.{needGraph}
 use Rattle.plan.specs.Groups.{numberedUpto, groupsOf}
-use Rattle.plan.specs.MachineSets.{ReachSets, MutualSets, OutsideSets, Grouped}
+use Rattle.plan.specs.Kept.MachineSets.{ReachSets, MutualSets, OutsideSets, Grouped}
 use Rattle.plan.proofs.Needs.{length-needGraph}
 use Rattle.plan.proofs.GroupSets.{mutual-together}
 

@@ -13,14 +13,14 @@ use Rattle.common.proofs.Reply.{andThen-refused, caused-each, refused-cause}
 use Rattle.sheet.specs.declared.index.Sheet.{Sheet}
 use Rattle.sheet.specs.Model.{Model, machineCount}
 use Rattle.sheet.specs.Parse.{Parsed, parse}
-use Rattle.sheet.specs.Index.{Indexes}
+use Rattle.sheet.specs.Kept.Indexed.{Indexes}
 use Rattle.sheet.proofs.Indexed.{indexes-valid, indexes-machines, indexes-modes}
 use Rattle.sheet.proofs.Parsed.{parse-valid}
 use Rattle.sheet.proofs.Place.{refusal-near}
 use Rattle.plan.specs.Groups.{groupCount, groupsOf}
 use Rattle.plan.specs.Planning.{large, largePlace, sizeFaults, lengthReply, planReply}
-use Rattle.plan.specs.Sizes.{SmallNumbers, CountsOf}
-use Rattle.plan.specs.Measured.{lengthWith}
+use Rattle.plan.specs.Kept.Sizes.{SmallNumbers, CountsOf}
+use Rattle.plan.specs.Kept.Making.{lengthWith}
 use Rattle.plan.proofs.GroupLoops.{smallest-inside}
 use Rattle.plan.proofs.Groups.{group-below-machines}
 use Rattle.plan.proofs.Planning.{length-groupsOf}

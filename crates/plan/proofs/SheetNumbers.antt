@@ -13,11 +13,11 @@ use Rattle.common.proofs.Lists.{all-intro, filter-all}
 use Rattle.sheet.specs.declared.index.Sheet.{Sheet}
 use Rattle.sheet.specs.Model.{Model}
 use Rattle.sheet.specs.Valid.{Valid}
-use Rattle.sheet.specs.Index.{Indexes}
+use Rattle.sheet.specs.Kept.Indexed.{Indexes}
 use Rattle.sheet.proofs.Indexed.{indexes-valid, indexes-machines, indexes-array}
 use Rattle.plan.specs.Groups.{Grouping, movesOf, namedOutside}
-use Rattle.plan.specs.Sizes.{SmallNumbers}
-use Rattle.plan.specs.Partition.{Numbers, countedMoves, NamedSets}
+use Rattle.plan.specs.Kept.Sizes.{SmallNumbers}
+use Rattle.plan.specs.Kept.Partition.{Numbers, countedMoves, NamedSets}
 use Rattle.plan.proofs.Named.{moves-below}
 
 module _ {s : List ℕ} {x : Sheet} {m : Model} (i : Indexes s x m) {numbers : List ℕ} (n : Numbers x numbers) where

@@ -18,8 +18,8 @@ use Rattle.plan.specs.Groups.{Grouping, groupCount}
 use Rattle.plan.specs.Bytes.{tableLength, tableAt, planLength}
 use Rattle.plan.specs.Reading.{hasRecord, fitsRecords}
 use Rattle.plan.specs.Promised.{SmallGroups}
-use Rattle.plan.specs.Sizes.{cappedSizes}
-use Rattle.plan.specs.Outline.{tableBytes, startAt, StartsAt, tablesFit, endsAt}
+use Rattle.plan.specs.Kept.Sizes.{cappedSizes}
+use Rattle.plan.specs.Kept.Outline.{tableBytes, startAt, StartsAt, tablesFit, endsAt}
 use Rattle.plan.proofs.ArrayLoops.{fills-map}
 use Rattle.plan.proofs.LengthLaws.{size-kept}
 

@@ -15,11 +15,11 @@ use Rattle.common.specs.Lists.{upTo, any}
 use Rattle.common.proofs.Bools.{by-cases, true-false}
 use Rattle.common.proofs.Pad.{getD-zeros}
 use Rattle.common.proofs.Snoc.{any-snoc}
-use Rattle.sets.specs.Sets.{alone, union, less, least}
+use Rattle.sets.specs.Kept.Sets.{alone, union, less, least}
 use Rattle.sets.proofs.Joined.{bit-joined}
 use Rattle.sets.proofs.Laws.{bit-none, bit-alone, bit-less, less-from}
 use Rattle.sets.proofs.Members.{least-member, elements-none, taken-elements, taken-fits}
-use Rattle.plan.specs.MachineSets.{GroupsBelow, someOf, PutInto, NumberedNeeds, someNeeds, TargetSets}
+use Rattle.plan.specs.Kept.MachineSets.{GroupsBelow, someOf, PutInto, NumberedNeeds, someNeeds, TargetSets}
 
 -- `put_into`: the machines of `rest` are still to come
 

@@ -14,18 +14,18 @@ use Rattle.common.specs.Lists.{upTo, any}
 use Rattle.common.proofs.Bools.{bool-ext, and-intro, and-left, and-right, not-of-false}
 use Rattle.common.proofs.Lists.{any-intro, any-some}
 use Rattle.common.proofs.Members.{mem-index, upTo-mem}
-use Rattle.sets.specs.Sets.{elements}
+use Rattle.sets.specs.Kept.Sets.{elements}
 use Rattle.sets.proofs.Members.{bit-element, element-bit}
-use Rattle.search.specs.Search.{Holds}
+use Rattle.search.specs.Kept.Search.{Holds}
 use Rattle.search.proofs.Between.{successor-bit, bit-successor}
 use Rattle.sheet.specs.declared.index.Sheet.{Sheet}
 use Rattle.sheet.specs.Model.{Move, Model, machineCount, moveAt, noMove}
-use Rattle.sheet.specs.Index.{Indexes}
+use Rattle.sheet.specs.Kept.Indexed.{Indexes}
 use Rattle.sheet.proofs.Indexed.{indexes-valid, indexes-machines}
 use Rattle.plan.specs.Needs.{Needs, needGraph}
 use Rattle.plan.specs.Groups.{Grouping, groupOf, groupCount, groupsOf, movesOf, namedOutside}
-use Rattle.plan.specs.MachineSets.{someOf, NumberedNeeds, someNeeds, TargetSets}
-use Rattle.plan.specs.Partition.{NeededBy}
+use Rattle.plan.specs.Kept.MachineSets.{someOf, NumberedNeeds, someNeeds, TargetSets}
+use Rattle.plan.specs.Kept.Partition.{NeededBy}
 use Rattle.plan.proofs.Named.{guard-valid, group-below-count, moves-in, moves-below, moves-group, moves-mem}
 use Rattle.plan.proofs.Named.{named-in, named-other, named-by}
 use Rattle.plan.proofs.Needs.{guard-needs, need-successor, successor-need}

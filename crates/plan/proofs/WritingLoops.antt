@@ -12,7 +12,7 @@ use lib.Seq.{take-length, drop-length, sets-eq, paste, paste-zero, paste-suc}
 use Rattle.sheet.specs.Record.{twoBytes, recordOf}
 use Rattle.sheet.proofs.Written.{length-twoBytes, length-recordOf}
 use Rattle.plan.specs.Bytes.{fourBytes}
-use Rattle.plan.specs.Written.{written}
+use Rattle.plan.specs.Kept.Written.{written}
 use Rattle.plan.proofs.Bytes.{length-fourBytes}
 use Rattle.plan.proofs.Overwriting.{written-none, written-more, length-written}
 

@@ -9,7 +9,7 @@ use Rattle.sheet.specs.Model.{Model, moveCount, moveAt}
 use Rattle.sheet.specs.Parse.{Parsed, parse}
 use Rattle.plan.specs.Groups.{Grouping, groupOf, groupCount, groupsOf, movesOf, namedOutside}
 use Rattle.plan.specs.Modes.{size, liveMode}
-use Rattle.plan.specs.Usable.{meets, leads, target}
+use Rattle.plan.specs.Usable.{meets, leads, endMode}
 use Rattle.plan.specs.Meaning.{Usable}
 use Rattle.plan.specs.Planning.{planReply}
 use Rattle.plan.specs.Reading.{groupsIn, entryAt, boundIn, wellShaped}
@@ -45,7 +45,7 @@ module _ (m : Model) (plan : List ℕ) where
         → IsDistance m plan k p q (suc d)
         → List·Memᴰ (entryAt m plan k p q .move) (movesOf m groups k) × IsUsable (entryAt m plan k p q .move)
         × (leads m groups k (moveAt m (entryAt m plan k p q .move)) p ≡ true)
-        × (entryAt m plan k (target m groups k (moveAt m (entryAt m plan k p q .move)) p) q .distance ≤ d)
+        × (entryAt m plan k (endMode m groups k (moveAt m (entryAt m plan k p q .move)) p) q .distance ≤ d)
     -- a usable move's needs on an outside group can be met from every live mode
     pub always-met : (v a p : ℕ) → v < moveCount m → IsUsable v
         → List·Memᴰ a (namedOutside m groups (groupOf groups (moveAt m v .machine)) (v ∷ []))
@@ -58,7 +58,7 @@ module _ (m : Model) (plan : List ℕ) where
   -- The routes: a usable move makes one; they compose; one from a live mode ends in a live mode.
   pub record RouteLaws (IsUsable : ℕ → Type 0) : Type 0 where
     pub move-connects : (k p v : ℕ) → k < groupCount groups → p < size m groups k → List·Memᴰ v (movesOf m groups k) → IsUsable v
-        → leads m groups k (moveAt m v) p ≡ true → Connects m plan k p (target m groups k (moveAt m v) p)
+        → leads m groups k (moveAt m v) p ≡ true → Connects m plan k p (endMode m groups k (moveAt m v) p)
     pub connects-compose : (k p q r : ℕ) → k < groupCount groups → p < size m groups k → q < size m groups k → r < size m groups k
         → Connects m plan k p q → Connects m plan k q r → Connects m plan k p r
     pub connects-live : (k p q : ℕ) → k < groupCount groups → p < size m groups k → q < size m groups k → Connects m plan k p q

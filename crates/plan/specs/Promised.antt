@@ -66,6 +66,7 @@ pub record RepliesRight (sheet : List ℕ) (m : Model) (buffer scratch : ℕ) : 
       → buffer ≡ planLength m (groupsOf m) → 512 ≤ scratch → planReply sheet buffer scratch ≡ given (ownPlan m)
   pub reported : SmallGroups m (groupsOf m) → squares m (groupsOf m) ≤ 16384
       → lengthReply sheet ≡ given (planLength m (groupsOf m))
+  pub as-reported : (plan : List ℕ) → planReply sheet buffer scratch ≡ given plan → lengthReply sheet ≡ given (length plan)
 
 abbrev pub Replied : Type 0
 Replied = (sheet : List ℕ) (d : Parsed) (buffer scratch : ℕ) → parse sheet ≡ given d → RepliesRight sheet (d .model) buffer scratch

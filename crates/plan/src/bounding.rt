@@ -3,8 +3,8 @@ use crate::measure::Plan;
 ghost use mathlib.Core.Path.{_≡_};
 ghost use Prim.Native.Nat.{ℕ, _≤_};
 ghost use lib.ListN.{length, getD};
-ghost use Rattle.sets.specs.Sets.{elements};
-ghost use Rattle.plan.specs.CostSets.{cappedCost, moveCost, boundBySets};
+ghost use Rattle.sets.specs.Kept.Sets.{elements};
+ghost use Rattle.plan.specs.Kept.CostSets.{cappedCost, moveCost, boundBySets};
 
 // What the first groups cost together: each from its longest distance and the set of the groups that it names.
 pub fn bound(named: &[u64], longest: &[u8], count: usize) -> u32
@@ -12,7 +12,7 @@ pub fn bound(named: &[u64], longest: &[u8], count: usize) -> u32
     ensures { λ r. ⌜ r ≡ cappedCost (boundBySets (now (named .entry)) (now (longest .entry)) count) ⌝ }
 {
     // A cost for each number that a set can hold; of a group to come, 0.
-    let mut costs = [0u32; 64];
+    let mut costs = [0u32; sets::NUMBERS];
     let mut total: u32 = 0;
     let mut k: usize = 0;
     while k < count {
@@ -25,7 +25,7 @@ pub fn bound(named: &[u64], longest: &[u8], count: usize) -> u32
 }
 
 // One move, and what preparing it may cost.
-fn prepared(costs: &[u32; 64], named: u64) -> u32
+fn prepared(costs: &[u32; sets::NUMBERS], named: u64) -> u32
     requires { ⌜ ((i : ℕ) → getD (now costs) i 0 ≤ 65536) ⌝ }
     ensures { λ r. ⌜ r ≡ moveCost (now (costs .entry)) (elements named) ⌝ }
 {

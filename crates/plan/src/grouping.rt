@@ -8,15 +8,15 @@ ghost use mathlib.Core.Path.{_≡_};
 ghost use Prim.Native.Nat.{_<_, _≤_};
 ghost use lib.ListN.{length, take, replicate};
 ghost use Rattle.sheet.specs.Model.{Model, machineCount, moveOf};
-ghost use Rattle.sheet.specs.Index.{Indexed, Indexes};
+ghost use Rattle.sheet.specs.Kept.Indexed.{Indexed, Indexes};
 ghost use Rattle.common.specs.Graph.{Graph, distances};
-ghost use Rattle.search.specs.Search.{Holds};
+ghost use Rattle.search.specs.Kept.Search.{Holds};
 ghost use Rattle.plan.specs.Needs.{needGraph};
 ghost use Rattle.plan.specs.Groups.{numberedUpto, groupsOf};
-ghost use Rattle.plan.specs.MachineSets.{NamedIn, ReachSets, Mutual, MutualSets, OutsideSets};
-ghost use Rattle.plan.specs.MachineSets.{Grouped, nextGroup, GroupsBelow, PutInto};
-ghost use Rattle.plan.specs.MachineSets.{NumberedNeeds, TargetSets};
-ghost use Rattle.plan.specs.Partition.{NeededBy};
+ghost use Rattle.plan.specs.Kept.MachineSets.{NamedIn, ReachSets, Mutual, MutualSets, OutsideSets};
+ghost use Rattle.plan.specs.Kept.MachineSets.{Grouped, nextGroup, GroupsBelow, PutInto};
+ghost use Rattle.plan.specs.Kept.MachineSets.{NumberedNeeds, TargetSets};
+ghost use Rattle.plan.specs.Kept.Partition.{NeededBy};
 
 // The machines that a move names, from its body.
 fn named(body: &[u8]) -> u64
@@ -32,11 +32,11 @@ fn named(body: &[u8]) -> u64
 }
 
 // For each machine, those that it needs.
-fn needed(s: &[u8], sheet: Sheet) -> [u64; 64]
+fn needed(s: &[u8], sheet: Sheet) -> [u64; sets::NUMBERS]
     requires { ⌜ Indexed (now s) sheet ⌝ }
     ensures { λ r. ⌜ ((m : Model) → Indexes (now (s .entry)) sheet m → Holds (needGraph m) r) ⌝ }
 {
-    let mut next = [0u64; 64];
+    let mut next = [0u64; sets::NUMBERS];
     let mut v: usize = 0;
     while v < sheet.moves {
         let start = sheet.bodies[v] as usize;
@@ -117,12 +117,12 @@ fn next_group(groups: &[u64], outside: &[u64], numbered: u64, n: usize) -> u64
 }
 
 // Numbers the groups of n machines.
-fn number(groups: &[u64], outside: &[u64], n: usize) -> [u8; 64]
+fn number(groups: &[u64], outside: &[u64], n: usize) -> [u8; sets::NUMBERS]
     requires { ⌜ (length (now groups) ≡ 64) × (length (now outside) ≡ 64) × (n ≤ 64) ⌝ }
     ensures { λ r. ⌜ ((g : Graph) → Grouped g n (now (groups .entry)) (now (outside .entry))
         → take n r ≡ numberedUpto g (distances g) n) ⌝ }
 {
-    let mut numbers = [0u8; 64];
+    let mut numbers = [0u8; sets::NUMBERS];
     let mut numbered: u64 = 0;
     let mut k: usize = 0;
     while k < n {
@@ -138,14 +138,14 @@ fn number(groups: &[u64], outside: &[u64], n: usize) -> [u8; 64]
 }
 
 // Numbers the groups of n machines by what each of them needs.
-fn by_needs(next: &[u64], n: usize) -> [u8; 64]
+fn by_needs(next: &[u64], n: usize) -> [u8; sets::NUMBERS]
     requires { ⌜ (length (now next) ≡ 64) × (n ≤ 64) ⌝ }
     ensures { λ r. ⌜ ((m : Model) → Holds (needGraph m) (now (next .entry)) → n ≡ machineCount m
         → take (machineCount m) r ≡ groupsOf m) ⌝ }
 {
-    let mut reach = [0u64; 64];
-    let mut groups = [0u64; 64];
-    let mut waits = [0u64; 64];
+    let mut reach = [0u64; sets::NUMBERS];
+    let mut groups = [0u64; sets::NUMBERS];
+    let mut waits = [0u64; sets::NUMBERS];
     reached(next, n, &mut reach);
     together(&reach, n, &mut groups);
     outside(next, &groups, n, &mut waits);
@@ -153,7 +153,7 @@ fn by_needs(next: &[u64], n: usize) -> [u8; 64]
 }
 
 // Each machine's group number.
-pub fn groups(s: &[u8], sheet: Sheet) -> [u8; 64]
+pub fn groups(s: &[u8], sheet: Sheet) -> [u8; sets::NUMBERS]
     requires { ⌜ Indexed (now s) sheet ⌝ }
     ensures { λ r. ⌜ ((m : Model) → Indexes (now (s .entry)) sheet m → take (machineCount m) r ≡ groupsOf m) ⌝ }
 {
@@ -193,7 +193,7 @@ fn put_targets(next: &[u64], numbers: &[u8], n: usize, targets: &mut [u64])
 }
 
 // Each machine's group number. Puts into each group's set the other groups whose moves name it.
-pub fn ordered(s: &[u8], sheet: Sheet, targets: &mut [u64]) -> [u8; 64]
+pub fn ordered(s: &[u8], sheet: Sheet, targets: &mut [u64]) -> [u8; sets::NUMBERS]
     requires { ⌜ Indexed (now s) sheet × (now targets ≡ replicate 32 0) ⌝ }
     ensures numbers { λ r. ⌜ ((m : Model) → Indexes (now (s .entry)) sheet m
         → take (machineCount m) r ≡ groupsOf m) ⌝ }

@@ -12,11 +12,12 @@ ghost use mathlib.Core.Path.{_≡_};
 ghost use Prim.Native.Nat.{_≤_};
 ghost use lib.ListN.{length};
 ghost use Rattle.sheet.specs.Model.{Model, machineCount};
-ghost use Rattle.sheet.specs.Index.{Indexed, Indexes};
+ghost use Rattle.sheet.specs.Kept.Indexed.{Indexed, Indexes};
 ghost use Rattle.plan.specs.Groups.{groupsOf};
 ghost use Rattle.plan.specs.Planning.{lengthReply};
-ghost use Rattle.plan.specs.Sizes.{SmallNumbers, CountsOf, firstLarge, entriesOf};
-ghost use Rattle.plan.specs.Measured.{measuredOf, lengthWith};
+ghost use Rattle.plan.specs.Kept.Sizes.{SmallNumbers, CountsOf, firstLarge, entriesOf};
+ghost use Rattle.plan.specs.Answers.{measuredOf};
+ghost use Rattle.plan.specs.Kept.Making.{lengthWith};
 
 // A plan.
 pub struct Plan;

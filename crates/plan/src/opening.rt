@@ -14,10 +14,12 @@ ghost use mathlib.Core.Bool.{true};
 ghost use Rattle.common.specs.Reply.{given, refused};
 ghost use Rattle.sheet.specs.Model.{Model};
 ghost use Rattle.sheet.specs.Parse.{Parsed, parse};
-ghost use Rattle.sheet.specs.Index.{indexOf, Indexed, Indexes};
+ghost use Rattle.sheet.specs.Index.{indexOf};
+ghost use Rattle.sheet.specs.Kept.Indexed.{Indexed, Indexes};
 ghost use Rattle.sheet.specs.Refusal.{numberOf};
 ghost use Rattle.plan.specs.Reading.{wellShaped};
-ghost use Rattle.plan.specs.Outline.{verdictSays, outlineReply, Outlined, ShapeJudged};
+ghost use Rattle.plan.specs.Answers.{verdictSays, outlineReply};
+ghost use Rattle.plan.specs.Kept.Outline.{Outlined, ShapeJudged};
 
 // What is kept of a sheet and of a plan for it: the verdict of 1 to 8 and of the shape (15), and where all of it passes,
 // the sheet's index, the groups that the plan numbers, and where each group's table begins.
@@ -25,7 +27,7 @@ pub struct Outline {
     pub verdict: Verdict,
     pub sheet: Sheet,
     pub groups: Groups,
-    pub starts: [u32; 33],
+    pub starts: [u32; Sheet::MACHINES + 1],
 }
 
 // The outline of a refusal: nothing is kept.
@@ -36,7 +38,7 @@ fn refusal(cause: Cause, place: usize) -> Outline
         verdict: Verdict::Refused(cause, place),
         sheet: Sheet::empty(),
         groups: Groups::none(),
-        starts: [0u32; 33],
+        starts: [0u32; Sheet::MACHINES + 1],
     }
 }
 

@@ -1,5 +1,6 @@
 // Reading a plan back, whoever wrote it: whether its records fit, where its tables begin, the bound.
 use crate::sizing::count;
+use sheet::index::Sheet;
 use sheet::record::Record;
 use sheet::record::body;
 use sheet::record::wide;
@@ -10,7 +11,7 @@ ghost use Prim.Native.Nat.{_≤_, _<_};
 ghost use lib.ListN.{length, getD};
 ghost use Rattle.sheet.specs.Record.{part};
 ghost use Rattle.plan.specs.Reading.{gapless, hasRecord};
-ghost use Rattle.plan.specs.Outline.{Used, lowerNamed, tableBytes, StartsAt, tablesFit, endsAt, boundAt};
+ghost use Rattle.plan.specs.Kept.Outline.{Used, lowerNamed, tableBytes, StartsAt, tablesFit, endsAt, boundAt};
 
 // An entry of a table: a distance and a first move.
 pub struct Cell {
@@ -95,11 +96,11 @@ fn table_length(size: u8) -> usize
 }
 
 // Where each group's record begins, behind the numbers of n machines, and where the record behind the last.
-pub fn starts(sizes: &[u8], count: usize, n: usize) -> [u32; 33]
+pub fn starts(sizes: &[u8], count: usize, n: usize) -> [u32; Sheet::MACHINES + 1]
     requires { ⌜ (count ≤ 32) × (count ≤ length (now sizes)) × (n ≤ 32) ⌝ }
     ensures { λ r. ⌜ StartsAt (now (sizes .entry)) n count r ⌝ }
 {
-    let mut r = [0u32; 33];
+    let mut r = [0u32; Sheet::MACHINES + 1];
     let mut at: usize = 4 + n;
     let mut k: usize = 0;
     while k < count {

@@ -6,7 +6,7 @@ ghost use Prim.Native.Nat.{_+_, _≤_};
 ghost use lib.ListN.{length, replicate};
 ghost use Rattle.sheet.specs.Record.{twoBytes, recordOf};
 ghost use Rattle.plan.specs.Bytes.{fourBytes};
-ghost use Rattle.plan.specs.Written.{written};
+ghost use Rattle.plan.specs.Kept.Written.{written};
 
 // Writes a number at a place, two bytes.
 fn put_two(plan: &mut [u8], at: usize, n: usize)

@@ -1,5 +1,6 @@
 // Prints a sheet in plain words and numbers: a line for each machine and each move and one that counts them, or its refusal.
 use libc::STDOUT_FILENO;
+use sheet::bits::has_mode;
 use sheet::index::Machine;
 use sheet::index::Move;
 use sheet::index::Sheet;
@@ -7,10 +8,12 @@ use sheet::refusal::Cause;
 use sheet::refusal::Verdict;
 ghost use Rattle.io.specs.Counts.{Counts};
 
+// Words as they are.
 pub fn text(words: &[u8]) {
     io::write_all(STDOUT_FILENO, words);
 }
 
+// A decimal number.
 fn number(n: u64) {
     io::print_decimal(STDOUT_FILENO, n);
 }
@@ -25,13 +28,14 @@ pub fn labelled(words: &[u8], n: u64) {
 fn modes(mask: u8) {
     let mut m: u8 = 0;
     while m < 8 {
-        if (mask >> m) % 2 == 1 {
+        if has_mode(mask, m) {
             labelled(b" ", m as u64);
         }
         m += 1;
     }
 }
 
+// The line of a machine: its number, modes and live modes.
 fn machine_line(sheet: Sheet, m: u8) {
     labelled(b"machine ", m as u64);
     labelled(b": modes ", sheet.mode_count(Machine(m)) as u64);
@@ -63,6 +67,7 @@ fn needs(file: &[u8], sheet: Sheet, v: u8) {
     }
 }
 
+// The line of a move: its number, machine, modes, command and needs.
 fn move_line(file: &[u8], sheet: Sheet, v: u8) {
     let m = sheet.move_machine(file, Move(v));
     labelled(b"move ", v as u64);
@@ -74,6 +79,7 @@ fn move_line(file: &[u8], sheet: Sheet, v: u8) {
     text(b"\n");
 }
 
+// A line for each machine.
 fn machine_lines(sheet: Sheet) {
     let count = sheet.machines;
     let mut m: usize = 0;
@@ -83,6 +89,7 @@ fn machine_lines(sheet: Sheet) {
     }
 }
 
+// A line for each move.
 fn move_lines(file: &[u8], sheet: Sheet) {
     let count = sheet.moves;
     let mut v: usize = 0;
@@ -138,6 +145,7 @@ fn factors(sheet: Sheet) {
     }
 }
 
+// How many states there are, in words; as a product where they are 2^64 or more.
 fn states_counted(sheet: Sheet) {
     let total = states(sheet);
     if total == 0 {
@@ -158,11 +166,13 @@ fn count_line(sheet: Sheet) {
     text(b"\n");
 }
 
+// A refusal's number and place.
 fn refusal(cause: Cause, place: usize) {
     labelled(b"refused ", sheet::refusal::number(cause) as u64);
     labelled(b" ", place as u64);
 }
 
+// The line of a refusal.
 pub fn refusal_line(cause: Cause, place: usize) {
     refusal(cause, place);
     text(b"\n");

@@ -10,7 +10,7 @@ use lib.ListN.{length, getD, set}
 use lib.Seq.{getD-set-same, getD-set-other}
 use Rattle.common.specs.Bits.{bit}
 use Rattle.common.proofs.Bools.{by-cases}
-use Rattle.sets.specs.Sets.{union}
+use Rattle.sets.specs.Kept.Sets.{union}
 use Rattle.sets.proofs.Laws.{bit-union}
 
 pub bit-joined : (sets : List ℕ) (k s i j : ℕ) → k < length sets

@@ -14,7 +14,7 @@ use lib.Bits.{bitAnd, bitOr, and-step, or-step, and-le-l, or-lt, or-disjoint}
 use Rattle.common.specs.Bits.{bit}
 use Rattle.common.proofs.Bits.{bit-past}
 use Rattle.common.proofs.Bools.{by-cases, and-intro, and-left, and-right, not-of-false}
-use Rattle.sets.specs.Sets.{alone, below, union, both, less, raised, lowered}
+use Rattle.sets.specs.Kept.Sets.{alone, below, union, both, less, raised, lowered}
 use Rattle.sets.proofs.Digits.{num, digit-low, digit-high, bit-suc, bitwise, same-bits, mod-num, half-below}
 
 pub bit-none : (i : ℕ) → bit 0 i ≡ false

@@ -5,12 +5,8 @@ use mathlib.Core.Path.{_≡_, sym, _∙_}
 use mathlib.Core.List.{List, [], _∷_, _++_}
 use native.Mathlib.Numerals.{add-one}
 use native.Mathlib.Omega.{arith}
-use borrow.Author.Tests.{eqb-true, eqb-false}
-use lib.Dec.{eqb}
 use lib.ListN.{length, getD, set, List·getD-eq-default}
-use lib.Seq.{getD-set-same, getD-set-other}
 use Rattle.common.specs.Lists.{pad}
-use Rattle.common.proofs.Bools.{by-cases}
 use Rattle.common.proofs.Pad.{set-pad}
 use Rattle.common.proofs.Snoc.{length-snoc}
 
@@ -36,14 +32,6 @@ more-pairs P [] (y ∷ ys) a b e h k i = absurd (let f : ⊥ = omega arith in f)
 more-pairs P (x ∷ xs) [] a b e h k i = absurd (let f : ⊥ = omega arith in f)
 more-pairs P (x ∷ xs) (y ∷ ys) a b e h k zero = h 0
 more-pairs P (x ∷ xs) (y ∷ ys) a b e h k (suc i) = more-pairs P xs ys a b (omega arith) (λ j. h (suc j)) k i
-
--- an element raised: none falls
-pub none-falls : (xs : List ℕ) (i b : ℕ) {x : ℕ} → i < length xs → getD xs i 0 ≤ b → (j : ℕ) → x ≤ getD xs j 0
-    → x ≤ getD (set xs i b) j 0
-none-falls xs i b l h j k =
-    by-cases (eqb j i)
-    (λ t. rw (eqb-true j i t, getD-set-same xs i b 0 l) (omega (arith, rw (eqb-true j i t) at k)))
-    (λ f. rw (getD-set-other xs i j b 0 (eqb-false j i f)) k)
 
 -- one more element in an array
 pub fills : (n : ℕ) (xs : List ℕ) (x : ℕ) {k : ℕ} {a : List ℕ} → a ≡ pad n xs → length xs ≡ k → k < n

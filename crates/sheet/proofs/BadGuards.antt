@@ -20,7 +20,7 @@ use Rattle.common.proofs.Lists.{any-append, any-intro, any-cong}
 use Rattle.sheet.specs.Record.{byte}
 use Rattle.sheet.specs.Model.{Guard, guard, Move, guardAt, moveOf}
 use Rattle.sheet.specs.Faults.{badGuard, badGuards}
-use Rattle.sheet.specs.Held.{topOf, wrongGuard, wrongGuards}
+use Rattle.sheet.specs.Kept.Held.{topOf, wrongGuard, wrongGuards}
 use Rattle.sheet.proofs.Guards.{guard-count, guard-here}
 
 module _ (body : List ℕ) (n : ℕ) (here : 2 * n + 5 < length body) where

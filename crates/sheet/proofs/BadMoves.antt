@@ -13,7 +13,7 @@ use Rattle.common.proofs.Bools.{or-left, or-right}
 use Rattle.sheet.specs.Record.{byte}
 use Rattle.sheet.specs.Model.{Move, moveOf}
 use Rattle.sheet.specs.Faults.{badMove}
-use Rattle.sheet.specs.Held.{deadMove}
+use Rattle.sheet.specs.Kept.Held.{deadMove}
 
 module _ (live body : List ℕ) where
   start : {i lit : ℕ} → i ≡ byte body 0 → lit ≡ byte live i → deadMove live (moveOf body)

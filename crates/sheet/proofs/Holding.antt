@@ -10,8 +10,8 @@ use Rattle.common.specs.Bits.{beyond}
 use Rattle.common.proofs.Pad.{pad-nil}
 use Rattle.sheet.specs.Model.{Move, Model, withMachine, withMove}
 use Rattle.sheet.specs.Parse.{nothing}
-use Rattle.sheet.specs.Held.{topOf, Held}
-use Rattle.sheet.specs.Scan.{MachineFits}
+use Rattle.sheet.specs.Kept.Held.{topOf, Held}
+use Rattle.sheet.specs.Kept.Scan.{MachineFits}
 use Rattle.sheet.proofs.Arrays.{more-below, more-pairs, fills, one-longer}
 
 pub held-nothing : Held (nothing .model) (record { machines = 0; moves = 0 }) (replicate 256 0) (replicate 32 0)

@@ -21,7 +21,8 @@ use Rattle.sheet.specs.Record.{byte, word, recordAt, part, bodyOf, bodyA
 use Rattle.sheet.specs.Model.{Move, Model, machineCount, moveCount, modeCount, moveAt, moveOf}
 use Rattle.sheet.specs.Valid.{Valid, ValidMove}
 use Rattle.sheet.specs.Parse.{Parsed, parse}
-use Rattle.sheet.specs.Index.{indexOf, modesIn, verdictOf, readingOf, indexReply, Indexes, Indexed, Listed}
+use Rattle.sheet.specs.Index.{indexOf, modesIn, verdictOf, readingOf, indexReply}
+use Rattle.sheet.specs.Kept.Indexed.{Indexes, Indexed, Listed}
 use Rattle.sheet.proofs.Records.{whole-here, whole-at, body-none, body-part, part-length, part-byte}
 use Rattle.sheet.proofs.Parsed.{Stands, parse-valid, parse-bodies, parse-stands}
 use Rattle.sheet.proofs.Answers.{machines-in, moves-in, modes-in, body-in}

@@ -15,8 +15,8 @@ use Rattle.sheet.specs.declared.judge.Counts.{Counts}
 use Rattle.sheet.specs.Record.{byte}
 use Rattle.sheet.specs.Model.{Model, modeCount, moveOf}
 use Rattle.sheet.specs.Faults.{wrongMoveLength, badMachine, badMove, badGuards, machineFaults}
-use Rattle.sheet.specs.Held.{fine, deadMove, wrongGuards, ownFaults, Counted, Held}
-use Rattle.sheet.specs.Sent.{Small}
+use Rattle.sheet.specs.Kept.Held.{fine, deadMove, wrongGuards, ownFaults, Counted, Held}
+use Rattle.sheet.specs.Kept.Sent.{Small}
 use Rattle.sheet.proofs.Fits.{has-modes}
 use Rattle.sheet.proofs.BadMoves.{bad-move-dead}
 use Rattle.sheet.proofs.BadGuards.{guards-by-tops}

@@ -15,7 +15,7 @@ use Rattle.common.proofs.Lists.{any-intro, any-fails}
 use Rattle.common.proofs.Members.{mem-getD, mem-index}
 use Rattle.common.proofs.Pad.{getD-zeros}
 use Rattle.common.proofs.Snoc.{length-snoc, snoc-each}
-use Rattle.sheet.specs.Sent.{pairOf, bucketOf, Latest, Chained, Sent, linksAfter, headsAfter}
+use Rattle.sheet.specs.Kept.Sent.{pairOf, bucketOf, Latest, Chained, Sent, linksAfter, headsAfter}
 
 -- a search has come to a place of the key's chain, or to its end, and has passed by no such key
 pub record Sought (chain : ℕ → ℕ) (keys : List ℕ) (key i : ℕ) : Type 0 where

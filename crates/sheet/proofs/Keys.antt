@@ -1,6 +1,6 @@
 -- Keys: a key tells a move.
 -- Assumes nothing.
-use Prim.Native.Nat.{ℕ, _+_, _*_, _%_, _<_}
+use Prim.Native.Nat.{_+_, _*_}
 use mathlib.Core.Path.{_≡_, sym, _∙_}
 use mathlib.Core.Bool.{_&&_}
 use mathlib.Core.List.{List, map, List·Memᴰ}
@@ -13,11 +13,7 @@ use Rattle.common.proofs.Bools.{bool-ext, and-intro, and-left, and-right}
 use Rattle.common.proofs.Lists.{any-map, any-cong}
 use Rattle.sheet.specs.Model.{Move}
 use Rattle.sheet.specs.Faults.{sameMove}
-use Rattle.sheet.specs.Sent.{keyOf, Small}
-
-pub key-fits : (v : Move) → keyOf v < 65536
-unfolding keyOf
-key-fits v = omega arith
+use Rattle.sheet.specs.Kept.Sent.{keyOf, Small}
 
 pub key-small : (v : Move) → Small v → keyOf v ≡ 2048 * v .machine + 256 * v .from + v .command
 unfolding keyOf

@@ -1,5 +1,5 @@
 -- The order of refusals ("Order" of "Why a call is turned down"): the sheet front to back, the first faulty record, the
--- lower number first within it. That a record which refuses is the whole reply is `parse-refused` of Turns.antt.
+-- lower number first within it. That a record which refuses is the whole reply is `turn-refused` of Turns.antt.
 -- Assumes nothing.
 use Prim.Native.Nat.{ℕ, zero, suc, _+_, _≤_, _<_}
 use mathlib.Core.Path.{_≡_, refl, sym, ap, _∙_}

@@ -167,10 +167,6 @@ module _ (s : List ℕ) {d : Parsed} (q : parse s ≡ given d) where
   pub parse-has-machine : 0 < machineCount (d .model)
   parse-has-machine = parse-read .has-machine
 
-  -- the fullest sheet: 32 machines, 250 moves of eight needs and the end
-  pub parse-length : length s ≤ 6196
-  parse-length = parse-read .small
-
   pub parse-bodies : length (d .bodies) ≡ moveCount (d .model)
   parse-bodies = parse-read .placed .paired
 

@@ -27,9 +27,9 @@ use Rattle.sheet.specs.Model.{Move, moveOf, withMachine, withMove}
 use Rattle.sheet.specs.Faults.{sameMove}
 use Rattle.sheet.specs.Parse.{Parsed, Turn, nothing, more, turnOf, parseFrom, parse}
 use Rattle.sheet.specs.Index.{indexOf, readingOf, indexReply, sheetOf}
-use Rattle.sheet.specs.Held.{topOf, Held}
-use Rattle.sheet.specs.Sent.{keyOf, Small, Sent, linksAfter, headsAfter}
-use Rattle.sheet.specs.Scan.{machineRead, moveRead, Stepped}
+use Rattle.sheet.specs.Kept.Held.{topOf, Held}
+use Rattle.sheet.specs.Kept.Sent.{keyOf, Small, Sent, linksAfter, headsAfter}
+use Rattle.sheet.specs.Kept.Scan.{machineRead, moveRead, Stepped}
 use Rattle.sheet.proofs.Arrays.{fills, one-longer}
 use Rattle.sheet.proofs.Holding.{held-nothing, held-machine, held-move}
 use Rattle.sheet.proofs.KeyChains.{sent-nothing, sent-more}

@@ -25,9 +25,9 @@ use Rattle.sheet.specs.declared.refusal.Cause.the-variants.{CutShort, Wr
 use Rattle.sheet.specs.declared.scan.Step.{Step}
 use Rattle.sheet.specs.declared.scan.Step.the-variants.{NewMachine, NewMove, End, Refused}
 use Rattle.sheet.specs.Parse.{Parsed, Turn, more, ended, extended, turnAt, turnOf}
-use Rattle.sheet.specs.Held.{fine, judgedOf, ownFaults, Held}
-use Rattle.sheet.specs.Sent.{keyOf}
-use Rattle.sheet.specs.Scan.{machineRead, moveRead, repeated, Stepped}
+use Rattle.sheet.specs.Kept.Held.{fine, judgedOf, ownFaults, Held}
+use Rattle.sheet.specs.Kept.Sent.{keyOf}
+use Rattle.sheet.specs.Kept.Scan.{machineRead, moveRead, repeated, Stepped}
 use Rattle.sheet.proofs.Judging.{passed-small}
 use Rattle.sheet.proofs.Records.{whole-starts, whole-within, body-part, part-length}
 use Rattle.sheet.proofs.Fits.{machine-passes, parts}

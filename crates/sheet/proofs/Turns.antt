@@ -11,10 +11,10 @@ use native.Mathlib.Omega.{arith}
 use borrow.Author.Tests.{ltb-false, lt-ltb, le-ltb, eq-eqb, ne-eqb}
 use lib.ListN.{length}
 use lib.Dec.{eqb, ltb}
-use Rattle.common.specs.Reply.{Reply, given, refused, Fault, fault, unless}
+use Rattle.common.specs.Reply.{Reply, given, refused, Fault, fault}
 use Rattle.common.proofs.Reply.{Clear, CausedBy, given-not-refused}
 use Rattle.common.proofs.Reply.{given-clear, given-stays, refused-ways, refused-cause}
-use Rattle.common.proofs.Reply.{unless-clear, unless-first, refused-anyway}
+use Rattle.common.proofs.Reply.{unless-clear, unless-first}
 use Rattle.common.proofs.Bools.{by-cases}
 use Rattle.sheet.specs.declared.record.Record.{Record}
 use Rattle.sheet.specs.declared.record.Record.the-variants.{Whole, Cut}
@@ -53,9 +53,6 @@ module _ (s : List ℕ) (at : ℕ) (d : Parsed) where
 
     pub parse-ended : {e : Parsed} → turnAt s at d kind start len ≡ given (ended e) → parseFrom n s at d ≡ given e
     parse-ended q = turn-ended n h (ap (turnOf s at d) w ∙ q)
-
-    pub parse-refused : {k p : ℕ} → turnAt s at d kind start len ≡ refused k p → parseFrom n s at d ≡ refused k p
-    parse-refused q = turn-refused n h (ap (turnOf s at d) w ∙ q)
 
 -- what is given comes of a whole record
 pub record WholeTurn (s : List ℕ) (at : ℕ) (d : Parsed) (r : Record) (t : Reply Turn) : Type 0 where
@@ -135,12 +132,6 @@ module _ (s : List ℕ) (at : ℕ) (d : Parsed) (kind start len : ℕ) where
       (λ t. inr (record { clear = c .0; is-end = t; caused = refused-cause (bytesBehind s (start + len)) _ (rw t at (c .1)) }))
       (λ f. absurd (given-not-refused (rw f at (c .1)))))
       (refused-ways faults _ q)
-
-  -- and the turn, from the causes
-  pub turn-faulty : {A : Type 0} (a : A) {k p : ℕ} → unless faults (given a) ≡ refused k p
-      → turnAt s at d kind start len ≡ refused k p
-  unfolding turnAt
-  turn-faulty a q = refused-anyway faults a _ q
 
   module _ (c : Clear faults) where
     pub turn-passes : (kind ≡ 3 → ⊥)

@@ -1,8 +1,7 @@
 -- The index of a sheet that was read: what the code keeps of it, and its answers.
-use Prim.Native.Nat.{ℕ, _+_, _-_, _/_, _≤_, _<_}
-use mathlib.Core.Path.{_≡_}
+use Prim.Native.Nat.{ℕ, _+_, _-_, _/_}
 use mathlib.Core.List.{List}
-use lib.ListN.{length, getD}
+use lib.ListN.{getD}
 use Rattle.common.specs.Lists.{pad}
 use Rattle.common.specs.Reply.{Reply, given, refused}
 use Rattle.sheet.specs.declared.index.Sheet.{Sheet}
@@ -10,9 +9,9 @@ use Rattle.sheet.specs.declared.index.Reading.{Reading}
 use Rattle.sheet.specs.declared.refusal.Verdict.{Verdict}
 use Rattle.sheet.specs.declared.refusal.Verdict.the-variants.{Accepted, Refused}
 use Rattle.sheet.specs.Refusal.{numberOf}
-use Rattle.sheet.specs.Record.{byte, word, bodyAt}
-use Rattle.sheet.specs.Model.{Model, machineCount, moveCount, moveAt, moveOf}
-use Rattle.sheet.specs.Parse.{Parsed, nothing, parse}
+use Rattle.sheet.specs.Record.{byte, word}
+use Rattle.sheet.specs.Model.{machineCount, moveCount}
+use Rattle.sheet.specs.Parse.{Parsed, nothing}
 
 -- counts, and arrays with zeros behind what there is
 unfoldable pub indexOf : Parsed → Sheet
@@ -58,20 +57,3 @@ moveByte s x v n = byte s (getD (x .bodies) v 0 + n)
 -- the number of needs of move v, from the body length four bytes before its body
 unfoldable pub guardCountIn : List ℕ → Sheet → ℕ → ℕ
 guardCountIn s x v = (word s (getD (x .bodies) v 0 - 4) - 4) / 2
-
--- x is the index of the file s, a sheet that passes, and m is what it says
-pub record Indexes (s : List ℕ) (x : Sheet) (m : Model) : Type 0 where
-  pub parsed : Parsed
-  pub passes : parse s ≡ given parsed
-  pub index : x ≡ indexOf parsed
-  pub model : m ≡ parsed .model
-
-abbrev pub Indexed : List ℕ → Sheet → Type 0
-Indexed s x = (m : Model) × Indexes s x m
-
--- where the bodies of a sheet's moves begin
-pub record Listed (m : Model) (file bodies : List ℕ) : Type 0 where
-  pub one-each : length bodies ≡ moveCount m
-  pub behind : (v : ℕ) → v < moveCount m → 4 ≤ getD bodies v 0
-  pub long : (v : ℕ) → v < moveCount m → 4 ≤ length (bodyAt file (getD bodies v 0 - 4))
-  pub each : (v : ℕ) → v < moveCount m → moveOf (bodyAt file (getD bodies v 0 - 4)) ≡ moveAt m v

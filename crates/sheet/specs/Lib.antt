@@ -1,12 +1,10 @@
 pub mod Faults
-pub mod Held
 pub mod Index
+pub mod Kept
 pub mod Meaning
 pub mod Model
 pub mod Parse
 pub mod Record
 pub mod Refusal
-pub mod Scan
-pub mod Sent
 pub mod Valid
 pub mod Write

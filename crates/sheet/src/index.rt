@@ -34,9 +34,9 @@ impl Move {
 pub struct Sheet {
     pub machines: usize,
     pub moves: usize,
-    pub modes: [u8; 32],
-    pub live: [u8; 32],
-    pub bodies: [u16; 250],
+    pub modes: [u8; Sheet::MACHINES],
+    pub live: [u8; Sheet::MACHINES],
+    pub bodies: [u16; Sheet::MOVES],
 }
 
 // The reply of reading a sheet. A refused sheet has the empty index.
@@ -59,9 +59,9 @@ impl Sheet {
         Sheet {
             machines: 0,
             moves: 0,
-            modes: [0u8; 32],
-            live: [0u8; 32],
-            bodies: [0u16; 250],
+            modes: [0u8; Sheet::MACHINES],
+            live: [0u8; Sheet::MACHINES],
+            bodies: [0u16; Sheet::MOVES],
         }
     }
 
@@ -106,24 +106,28 @@ impl Sheet {
         byte_at(s, self.place(v) + n)
     }
 
+    // The machine of a move.
     pub fn move_machine(self, s: &[u8], v: Move) -> Machine
         ensures { λ r. ⌜ r .0 ≡ moveByte (now (s .entry)) self (v .0) 0 ⌝ }
     {
         Machine(self.move_byte(s, v, 0))
     }
 
+    // The mode that a move leads from.
     pub fn move_from(self, s: &[u8], v: Move) -> u8
         ensures { λ r. ⌜ r ≡ moveByte (now (s .entry)) self (v .0) 1 ⌝ }
     {
         self.move_byte(s, v, 1)
     }
 
+    // The mode that a move leads to.
     pub fn move_to(self, s: &[u8], v: Move) -> u8
         ensures { λ r. ⌜ r ≡ moveByte (now (s .entry)) self (v .0) 2 ⌝ }
     {
         self.move_byte(s, v, 2)
     }
 
+    // The command byte of a move.
     pub fn move_command(self, s: &[u8], v: Move) -> u8
         ensures { λ r. ⌜ r ≡ moveByte (now (s .entry)) self (v .0) 3 ⌝ }
     {

@@ -16,8 +16,8 @@ ghost use Rattle.common.specs.Reply.{unless};
 ghost use Rattle.sheet.specs.Record.{byte};
 ghost use Rattle.sheet.specs.Model.{Model, machineCount, moveOf};
 ghost use Rattle.sheet.specs.Faults.{wrongMoveLength, badMachine, machineFaults, endFaults};
-ghost use Rattle.sheet.specs.Held.{fine, judgedOf, topOf, deadMove, wrongGuard, wrongGuards};
-ghost use Rattle.sheet.specs.Held.{ownFaults, Counted, Held};
+ghost use Rattle.sheet.specs.Kept.Held.{fine, judgedOf, topOf, deadMove, wrongGuard, wrongGuards};
+ghost use Rattle.sheet.specs.Kept.Held.{ownFaults, Counted, Held};
 
 // What judging a record finds.
 pub enum Judged {

@@ -1,5 +1,8 @@
 // What reading a sheet promises, as theorems. A function here does nothing: its contract is the theorem.
-ghost use Rattle.sheet.specs.Meaning.{AcceptedValid, AcceptedWhole, IndexAnswers, RefusedListed, ValidAccepted};
+ghost use mathlib.Core.List.{List};
+ghost use Prim.Native.Nat.{ℕ};
+ghost use Rattle.sheet.specs.Meaning.{AcceptedValid, AcceptedWhole, ValidAccepted, RefusedListed};
+ghost use Rattle.sheet.specs.Meaning.{CausesInOrder, IndexAnswers};
 
 // A sheet that passes 1 to 8 is valid, and has a machine.
 pub fn accepted_is_valid()
@@ -19,6 +22,11 @@ pub fn valid_is_accepted()
 // A refusal has one of the numbers 1 to 8, and a place in the file or just behind it.
 pub fn refused_is_listed()
     ensures { λ _. ⌜ RefusedListed ⌝ }
+{}
+
+// Of several causes the first in order counts.
+pub fn causes_are_in_order()
+    ensures { λ _. ⌜ ((s : List ℕ) → CausesInOrder s) ⌝ }
 {}
 
 // Each answer of the index is the model's field.

@@ -27,8 +27,8 @@ ghost use Rattle.sheet.specs.Model.{machineCount, moveOf};
 ghost use Rattle.sheet.specs.Faults.{machineFaults, moveFaults, endFaults};
 ghost use Rattle.sheet.specs.Parse.{Parsed, nothing, more, ended, turnOf, parse};
 ghost use Rattle.sheet.specs.Index.{indexOf, readingOf, indexReply, sheetOf};
-ghost use Rattle.sheet.specs.Held.{Counted, Held};
-ghost use Rattle.sheet.specs.Scan.{machineRead, moveRead, Stepped};
+ghost use Rattle.sheet.specs.Kept.Held.{Counted, Held};
+ghost use Rattle.sheet.specs.Kept.Scan.{machineRead, moveRead, Stepped};
 
 // What one record adds to the sheet, and where the next record begins.
 enum Step {

@@ -8,7 +8,7 @@ ghost use lib.ListN.{length};
 ghost use lib.Dec.{eqb};
 ghost use Rattle.common.specs.Lists.{any};
 ghost use Rattle.sheet.specs.Model.{moveOf};
-ghost use Rattle.sheet.specs.Sent.{keyOf, pairOf, bucketOf, linksAfter, headsAfter, Sent};
+ghost use Rattle.sheet.specs.Kept.Sent.{keyOf, pairOf, bucketOf, linksAfter, headsAfter, Sent};
 
 // The key of a move.
 pub fn key_of(body: &[u8]) -> u16

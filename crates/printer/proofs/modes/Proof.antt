@@ -12,8 +12,8 @@ abbrev μ-loop : tie.MeasureT-loop
 loop-holds : tie.Need-loop-holds Inv-loop μ-loop
 loop-holds c = search needs
 
-shr-if1 : tie.Need-shr-if1 Inv-loop μ-loop
-shr-if1 c = search needs
+has-mode-requires : tie.Need-has-mode-requires Inv-loop μ-loop
+has-mode-requires c κs = search needs
 
 slice-aggregate-labelled : tie.Need-slice-aggregate-labelled Inv-loop μ-loop
 slice-aggregate-labelled c = search needs
@@ -43,7 +43,7 @@ modes-spec =
     Inv-loop
     μ-loop
     loop-holds
-    shr-if1
+    has-mode-requires
     slice-aggregate-labelled
     cast-labelled
     labelled-requires

@@ -3,7 +3,7 @@ use mathlib.Core.Path.{sym, _∙_}
 use native.Mathlib.Omega.{arith}
 use borrow.Author.Needs.{needs}
 use Rattle.sheet.specs.Model.{Model}
-use Rattle.sheet.specs.Index.{Indexes}
+use Rattle.sheet.specs.Kept.Indexed.{Indexes}
 use Rattle.plan.proofs.MoveTurns.{turn-place, turn-behind}
 use Rattle.command.proofs.ActingLoops.{Unanswered, unanswered-none, unanswered-tagged, unanswered-next, unanswered-end}
 use Rattle.command.proofs.ActingLoops.{turn-head, answered-here}

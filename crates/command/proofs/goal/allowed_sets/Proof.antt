@@ -2,7 +2,7 @@ use Prim.Native.Nat.{_<_}
 use mathlib.Core.Path.{refl}
 use lib.ListN.{length}
 use native.Mathlib.Omega.{arith}
-use Rattle.sets.specs.Sets.{elements}
+use Rattle.sets.specs.Kept.Sets.{elements}
 use Rattle.sets.proofs.Members.{taken-shorter, taken-rest}
 use Rattle.plan.specs.Reading.{groupsIn}
 use Rattle.plan.proofs.WithinModes.{group-machines}

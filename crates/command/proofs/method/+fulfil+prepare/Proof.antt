@@ -9,7 +9,7 @@ use borrow.Fn.PlainCycle.{Measures, is, falls, and}
 use Rattle.common.specs.Bits.{bit}
 use Rattle.sheet.specs.Record.{byte}
 use Rattle.plan.specs.Groups.{groupOf}
-use Rattle.command.specs.Question.{machinesIn, numbersIn}
+use Rattle.command.specs.Kept.Question.{machinesIn, numbersIn}
 use Rattle.command.proofs.Looked.{kept-group, kept-fits}
 use Rattle.command.proofs.Placing.{placed-known, placed-count, kept-placed, kept-held}
 use Rattle.command.proofs.Startable.{listed-there, listed-behind, listed-long, listed-move, listed-valid}

@@ -1,7 +1,7 @@
 use mathlib.Core.Path.{ap, _∙_}
 use Prim.Native.Nat.{ℕ, _+_}
 use lib.ListN.{getD}
-use Rattle.command.specs.Question.{presentIn}
+use Rattle.command.specs.Kept.Question.{presentIn}
 use borrow.Author.Needs.{needs}
 use Rattle.command.proofs.query.mode_now.Statement.{statement}
 use Rattle.command.proofs.query.mode_now.Tie as tie

@@ -1,7 +1,7 @@
 use mathlib.Core.Path.{ap}
 use lib.ListN.{take, length-take}
 use Rattle.sheet.specs.Record.{part}
-use Rattle.command.specs.Question.{numbersIn}
+use Rattle.command.specs.Kept.Question.{numbersIn}
 use native.Mathlib.Omega.{arith}
 use borrow.Author.Needs.{needs}
 use Rattle.command.proofs.query.numbers.Statement.{statement}

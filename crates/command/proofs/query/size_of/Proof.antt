@@ -1,7 +1,7 @@
 use mathlib.Core.Path.{ap, _∙_}
 use Prim.Native.Nat.{ℕ, _+_}
 use lib.ListN.{getD}
-use Rattle.command.specs.Question.{sizeIn}
+use Rattle.command.specs.Kept.Question.{sizeIn}
 use borrow.Author.Needs.{needs}
 use Rattle.command.proofs.query.size_of.Statement.{statement}
 use Rattle.command.proofs.query.size_of.Tie as tie

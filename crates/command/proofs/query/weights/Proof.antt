@@ -1,6 +1,6 @@
 use mathlib.Core.Path.{refl}
 use Rattle.sheet.specs.Record.{part}
-use Rattle.command.specs.Question.{weightsIn}
+use Rattle.command.specs.Kept.Question.{weightsIn}
 use borrow.Author.Needs.{needs}
 use Rattle.command.proofs.query.weights.Statement.{statement}
 use Rattle.command.proofs.query.weights.Tie as tie

@@ -1,6 +1,6 @@
 use mathlib.Core.Path.{refl}
 use borrow.Author.Needs.{needs}
-use Rattle.sheet.specs.Index.{Indexed}
+use Rattle.sheet.specs.Kept.Indexed.{Indexed}
 use Rattle.sheet.proofs.Indexed.{accepted-indexed, refused-parse, indexes-machines, indexes-modes, indexes-array}
 use Rattle.plan.proofs.SheetGroups.{few-machines}
 use Rattle.joining.proofs.JoinReply.{join-read, join-unread}

@@ -3,10 +3,10 @@ use borrow.Author.Needs.{needs}
 use borrow.Author.Tests.{not-true, not-false}
 use Rattle.common.specs.Reply.{lengthOf, outputAfter}
 use Rattle.sheet.specs.Model.{Model, machineCount}
-use Rattle.plan.specs.Sizes.{CountsOf}
-use Rattle.plan.specs.Outline.{verdictSays}
+use Rattle.plan.specs.Kept.Sizes.{CountsOf}
+use Rattle.plan.specs.Answers.{verdictSays}
 use Rattle.joining.specs.Join.{Goals}
-use Rattle.joining.specs.Lent.{Splits}
+use Rattle.joining.specs.Kept.Lent.{Splits}
 use Rattle.joining.proofs.Sharing.{refusal-leaves}
 use Rattle.joining.proofs.JoinReply.{eachReply, whole-holds, cut-refused, each-short, each-shared, each-refused}
 use Rattle.joining.proofs.joining.join_goals.Statement.{statement}

@@ -4,7 +4,7 @@ use borrow.Author.Needs.{needs}
 use lib.ListN.{length}
 use Rattle.common.specs.Reply.{refused, lengthOf}
 use Rattle.joining.specs.Join.{Goals}
-use Rattle.joining.specs.Lent.{SplitsShort}
+use Rattle.joining.specs.Kept.Lent.{SplitsShort}
 use Rattle.joining.proofs.Sharing.{MasksOf, sharedReply, masks-of, masks-within, masks-taken}
 use Rattle.joining.proofs.Sharing.{refusal-leaves, without-refused, room-refused, shared-length, shared-written}
 use Rattle.joining.proofs.joining.write.Statement.{statement}

@@ -1,7 +1,7 @@
 use Prim.Native.Nat.{_-_}
 use borrow.Author.Needs.{needs}
 use lib.ListN.{length}
-use Rattle.sets.specs.Sets.{both}
+use Rattle.sets.specs.Kept.Sets.{both}
 use Rattle.joining.proofs.NarrowLoop.{NarrowedUpto, narrowed-upto-none, narrowed-upto-next, narrowed-upto-end}
 use Rattle.joining.proofs.lent.narrow.Statement.{statement}
 use Rattle.joining.proofs.lent.narrow.Tie as tie

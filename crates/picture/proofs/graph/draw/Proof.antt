@@ -1,5 +1,5 @@
 use mathlib.Core.Path.{refl}
-use Rattle.sheet.specs.Index.{Indexed}
+use Rattle.sheet.specs.Kept.Indexed.{Indexed}
 use Rattle.sheet.proofs.Indexed.{accepted-indexed, refused-parse}
 use Rattle.picture.proofs.SheetDrawn.{drawn-reply, undrawn-reply}
 use borrow.Author.Needs.{needs}

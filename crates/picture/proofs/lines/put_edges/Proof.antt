@@ -1,5 +1,5 @@
 use lib.ListN.{length}
-use Rattle.sets.specs.Sets.{elements}
+use Rattle.sets.specs.Kept.Sets.{elements}
 use Rattle.sets.proofs.Members.{taken-shorter, taken-rest}
 use Rattle.picture.proofs.SetRows.{EdgesBegun, edges-start, edges-room, edges-more, edges-end}
 use borrow.Author.Needs.{needs}

@@ -1,5 +1,5 @@
 use lib.ListN.{length}
-use Rattle.sets.specs.Sets.{elements}
+use Rattle.sets.specs.Kept.Sets.{elements}
 use Rattle.sets.proofs.Members.{taken-shorter, taken-rest}
 use Rattle.picture.proofs.SetRows.{LabelsBegun, labels-start, labels-room, labels-more, labels-end}
 use borrow.Author.Needs.{needs}

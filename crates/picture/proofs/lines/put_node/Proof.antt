@@ -1,4 +1,5 @@
 use native.Mathlib.Omega.{arith}
+use Rattle.sets.specs.Kept.Sets.{elements}
 use Rattle.picture.proofs.Pieces.{name-length, node-length, node-put}
 use borrow.Author.Needs.{needs}
 use Rattle.picture.proofs.lines.put_node.Statement.{statement}
@@ -11,7 +12,7 @@ put-name-requires c κs =
       arith,
       start .pre,
       name-length (start .args .k),
-      node-length (start .args .machines) (start .args .k),
+      node-length (start .args .k) (elements (start .args .machines)),
     )
 
 slice-aggregate-put : tie.Need-slice-aggregate-put
@@ -27,7 +28,7 @@ put-requires c κs =
       at-put-name .put-name .kept .0,
       start .pre,
       name-length (start .args .k),
-      node-length (start .args .machines) (start .args .k),
+      node-length (start .args .k) (elements (start .args .machines)),
     )
 
 put-labels-requires : tie.Need-put-labels-requires
@@ -43,7 +44,7 @@ put-labels-requires c κs =
       at-put .put .kept .0,
       start .pre,
       name-length (start .args .k),
-      node-length (start .args .machines) (start .args .k),
+      node-length (start .args .k) (elements (start .args .machines)),
     )
 
 slice-aggregate-put-2 : tie.Need-slice-aggregate-put-2
@@ -65,7 +66,7 @@ put-requires-2 c κs =
       at-put-labels .put-labels .kept .0,
       start .pre,
       name-length (start .args .k),
-      node-length (start .args .machines) (start .args .k),
+      node-length (start .args .k) (elements (start .args .machines)),
     )
 
 same-length : tie.Need-same-length

@@ -1,5 +1,5 @@
 use lib.ListN.{length}
-use Rattle.sets.specs.Sets.{elements}
+use Rattle.sets.specs.Kept.Sets.{elements}
 use Rattle.sets.proofs.Members.{taken-below, taken-shorter, taken-rest}
 use Rattle.picture.proofs.SetRows.{PairsBegun, pairs-start, pairs-room, pairs-more, pairs-end}
 use borrow.Author.Needs.{needs}

@@ -1,7 +1,7 @@
 use Prim.Native.Nat.{_-_}
 use native.Mathlib.Omega.{arith}
 use lib.ListN.{length}
-use Rattle.picture.specs.Rows.{pairRow}
+use Rattle.picture.specs.Kept.Rows.{pairRow}
 use Rattle.picture.proofs.RowLoops.{CountedUpto, counted-none, counted-next, counted-end}
 use borrow.Author.Needs.{needs}
 use Rattle.picture.proofs.rows.all_pairs_length.Statement.{statement}

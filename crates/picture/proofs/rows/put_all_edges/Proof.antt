@@ -1,6 +1,6 @@
 use Prim.Native.Nat.{_-_}
 use lib.ListN.{length}
-use Rattle.picture.specs.Rows.{edgeRow}
+use Rattle.picture.specs.Kept.Rows.{edgeRow}
 use Rattle.picture.proofs.RowLoops.{RowsUpto, rows-start, rows-more, rows-room, rows-end}
 use borrow.Author.Needs.{needs}
 use Rattle.picture.proofs.rows.put_all_edges.Statement.{statement}

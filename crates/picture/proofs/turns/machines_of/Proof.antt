@@ -3,7 +3,7 @@ use mathlib.Core.Bool.{true}
 use native.Mathlib.Omega.{arith}
 use lib.ListN.{length}
 use Rattle.common.specs.Bits.{bit}
-use Rattle.sets.specs.Sets.{elements}
+use Rattle.sets.specs.Kept.Sets.{elements}
 use Rattle.sets.proofs.Laws.{less-from}
 use Rattle.sets.proofs.Members.{least-member, taken-shorter, taken-rest}
 use Rattle.search.proofs.Gather.{Gathers, gathers-none, gathers-next, gathers-end}

@@ -1,6 +1,6 @@
 use Prim.Native.Nat.{_-_}
 use native.Mathlib.Omega.{arith}
-use Rattle.plan.specs.CostSets.{cappedCost}
+use Rattle.plan.specs.Kept.CostSets.{cappedCost}
 use Rattle.plan.proofs.CostLoops.{Costed, cost-fits, costed-none, costed-small, costed-next, costed-end}
 use borrow.Author.Needs.{needs}
 use Rattle.plan.proofs.bounding.bound.Statement.{statement}

@@ -1,5 +1,5 @@
 use native.Mathlib.Omega.{arith}
-use Rattle.plan.specs.CostSets.{cappedCost}
+use Rattle.plan.specs.Kept.CostSets.{cappedCost}
 use borrow.Author.Needs.{needs}
 use Rattle.plan.proofs.bounding.capped.Statement.{statement}
 use Rattle.plan.proofs.bounding.capped.Tie as tie

@@ -1,7 +1,7 @@
 use Prim.Native.Nat.{_<_}
 use native.Mathlib.Omega.{arith}
 use lib.ListN.{length}
-use Rattle.sets.specs.Sets.{elements}
+use Rattle.sets.specs.Kept.Sets.{elements}
 use Rattle.sets.proofs.Members.{taken-below, taken-shorter, taken-rest}
 use Rattle.plan.proofs.SetLoops.{Meets, meets-none, meets-next, meets-end}
 use borrow.Author.Needs.{needs}

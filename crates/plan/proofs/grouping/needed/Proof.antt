@@ -1,7 +1,7 @@
 use Prim.Native.Nat.{_-_, _<_}
 use native.Mathlib.Omega.{arith}
 use Rattle.sheet.specs.Model.{Model}
-use Rattle.sheet.specs.Index.{Indexes}
+use Rattle.sheet.specs.Kept.Indexed.{Indexes}
 use Rattle.sheet.proofs.Indexed.{indexes-valid, indexes-moves}
 use Rattle.plan.proofs.MoveTurns.{turn-place, turn-behind, turn-long}
 use Rattle.plan.proofs.NeedSets.{NeedsRead, reads-none, reads-end, turn-fits, turn-reads}

@@ -2,7 +2,7 @@ use Prim.Native.Nat.{_-_, _≤_}
 use mathlib.Core.Path.{_≡_, refl, _∙_}
 use lib.ListN.{length}
 use Rattle.common.specs.Graph.{Graph}
-use Rattle.plan.specs.MachineSets.{Grouped}
+use Rattle.plan.specs.Kept.MachineSets.{Grouped}
 use Rattle.plan.proofs.Marking.{Marks, marks-none, marks-next, marks-stop, marks-end}
 use borrow.Author.Needs.{needs}
 use Rattle.plan.proofs.grouping.number.Statement.{statement}

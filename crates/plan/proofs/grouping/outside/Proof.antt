@@ -1,7 +1,7 @@
 use Prim.Native.Nat.{_-_}
 use mathlib.Core.Path.{_≡_, sym, _∙_}
 use lib.ListN.{length}
-use Rattle.plan.specs.MachineSets.{Outside}
+use Rattle.plan.specs.Kept.MachineSets.{Outside}
 use Rattle.common.proofs.Filling.{Filled, filled-none, filled-next, filled-end}
 use lib.ListN.{getD}
 use Rattle.plan.proofs.SetLoops.{outside-less}

@@ -2,7 +2,7 @@ use mathlib.Core.Path.{sym, _∙_}
 use Prim.Native.Nat.{_<_}
 use native.Mathlib.Omega.{arith}
 use lib.ListN.{length}
-use Rattle.sets.specs.Sets.{elements}
+use Rattle.sets.specs.Kept.Sets.{elements}
 use Rattle.sets.proofs.Members.{taken-below, taken-shorter, taken-rest}
 use Rattle.plan.proofs.TargetLoops.{PutUpto, put-none, put-fits, put-next, put-end}
 use borrow.Author.Needs.{needs}

@@ -1,7 +1,7 @@
 use Prim.Native.Nat.{_-_}
 use mathlib.Core.Path.{_≡_, sym, _∙_}
 use lib.ListN.{length}
-use Rattle.search.specs.Search.{graphOf, Reached}
+use Rattle.search.specs.Kept.Search.{graphOf, Reached}
 use Rattle.common.proofs.Filling.{Filled, filled-none, filled-next, filled-end}
 use borrow.Author.Needs.{needs}
 use Rattle.plan.proofs.grouping.reached.Statement.{statement}

@@ -1,4 +1,4 @@
-use Rattle.plan.specs.Outline.{boundAt}
+use Rattle.plan.specs.Kept.Outline.{boundAt}
 use borrow.Author.Needs.{needs}
 use Rattle.plan.proofs.reading.bound.Statement.{statement}
 use Rattle.plan.proofs.reading.bound.Tie as tie

@@ -1,6 +1,6 @@
 use mathlib.Core.Path.{sym, _∙_}
 use borrow.Author.Tests.{not-true, not-false}
-use Rattle.plan.specs.Outline.{endsAt}
+use Rattle.plan.specs.Kept.Outline.{endsAt}
 use borrow.Author.Needs.{needs}
 use Rattle.plan.proofs.reading.ends.Statement.{statement}
 use Rattle.plan.proofs.reading.ends.Tie as tie

@@ -4,8 +4,8 @@ use borrow.Author.Tests.{eq-eqb, ne-eqb}
 use lib.ListN.{getD}
 use lib.Dec.{eqb}
 use Rattle.common.proofs.Tested.{Passed, passed-none, passed-next, passed-all, one-fails}
-use Rattle.sets.specs.Sets.{lowered}
-use Rattle.plan.specs.Outline.{lowerNamed}
+use Rattle.sets.specs.Kept.Sets.{lowered}
+use Rattle.plan.specs.Kept.Outline.{lowerNamed}
 use borrow.Author.Needs.{needs}
 use Rattle.plan.proofs.reading.needs_come_first.Statement.{statement}
 use Rattle.plan.proofs.reading.needs_come_first.Tie as tie

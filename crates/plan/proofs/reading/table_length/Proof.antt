@@ -1,5 +1,5 @@
 use native.Mathlib.Omega.{arith}
-use Rattle.plan.specs.Outline.{tableBytes}
+use Rattle.plan.specs.Kept.Outline.{tableBytes}
 use Rattle.plan.proofs.GroupLoops.{byte-product}
 use borrow.Author.Needs.{needs}
 use Rattle.plan.proofs.reading.table_length.Statement.{statement}

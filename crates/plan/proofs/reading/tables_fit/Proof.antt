@@ -5,7 +5,7 @@ use borrow.Author.Tests.{not-true, not-false}
 use lib.ListN.{getD}
 use Rattle.common.proofs.Tested.{Passed, passed-none, passed-next, passed-all, one-fails}
 use Rattle.plan.specs.Reading.{hasRecord}
-use Rattle.plan.specs.Outline.{tableBytes, tablesFit}
+use Rattle.plan.specs.Kept.Outline.{tableBytes, tablesFit}
 use borrow.Author.Needs.{needs}
 use Rattle.plan.proofs.reading.tables_fit.Statement.{statement}
 use Rattle.plan.proofs.reading.tables_fit.Tie as tie

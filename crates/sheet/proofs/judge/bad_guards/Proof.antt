@@ -3,7 +3,7 @@ use mathlib.Core.Bool.{false}
 use mathlib.Core.Path.{_≡_, refl}
 use borrow.Author.Needs.{needs}
 use Rattle.common.specs.Lists.{any, upTo}
-use Rattle.sheet.specs.Held.{wrongGuard}
+use Rattle.sheet.specs.Kept.Held.{wrongGuard}
 use Rattle.sheet.specs.Model.{moveOf}
 use Rattle.sheet.proofs.BadGuards.{guards-none, guards-more, guards-some, guards-all}
 use Rattle.sheet.proofs.judge.bad_guards.Statement.{statement}

@@ -1,7 +1,7 @@
 use native.Mathlib.Omega.{arith}
 use borrow.Author.Needs.{needs}
 use lib.Pow.{pow-pos, pow-mono}
-use Rattle.sheet.specs.Held.{topOf}
+use Rattle.sheet.specs.Kept.Held.{topOf}
 use Rattle.sheet.proofs.Modes.{shift-one}
 use Rattle.sheet.proofs.judge.first_modes.Statement.{statement}
 use Rattle.sheet.proofs.judge.first_modes.Tie as tie

@@ -1,6 +1,6 @@
 use native.Mathlib.Omega.{arith}
 use borrow.Author.Needs.{needs}
-use Rattle.sheet.specs.Sent.{bucketOf}
+use Rattle.sheet.specs.Kept.Sent.{bucketOf}
 use Rattle.sheet.proofs.sent.bucket_of.Statement.{statement}
 use Rattle.sheet.proofs.sent.bucket_of.Tie as tie
 

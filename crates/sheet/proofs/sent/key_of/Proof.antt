@@ -1,6 +1,6 @@
 use native.Mathlib.Omega.{arith}
 use borrow.Author.Needs.{needs}
-use Rattle.sheet.specs.Sent.{keyOf}
+use Rattle.sheet.specs.Kept.Sent.{keyOf}
 use Rattle.sheet.specs.Model.{moveOf}
 use Rattle.sheet.proofs.sent.key_of.Statement.{statement}
 use Rattle.sheet.proofs.sent.key_of.Tie as tie

@@ -1,6 +1,6 @@
 use native.Mathlib.Omega.{arith}
 use borrow.Author.Needs.{needs}
-use Rattle.sheet.specs.Sent.{pairOf}
+use Rattle.sheet.specs.Kept.Sent.{pairOf}
 use Rattle.sheet.proofs.sent.pair_of.Statement.{statement}
 use Rattle.sheet.proofs.sent.pair_of.Tie as tie
 

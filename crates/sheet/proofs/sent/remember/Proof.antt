@@ -1,7 +1,7 @@
 use borrow.Author.Needs.{needs}
 use native.Mathlib.Omega.{arith}
 use lib.ListN.{getD, length-set}
-use Rattle.sheet.specs.Sent.{linksAfter, headsAfter}
+use Rattle.sheet.specs.Kept.Sent.{linksAfter, headsAfter}
 use Rattle.sheet.proofs.sent.remember.Statement.{statement}
 use Rattle.sheet.proofs.sent.remember.Tie as tie
 

@@ -1,6 +1,6 @@
 use native.Mathlib.Omega.{arith}
 use borrow.Author.Needs.{needs}
-use Rattle.sheet.specs.Sent.{pairOf, bucketOf}
+use Rattle.sheet.specs.Kept.Sent.{pairOf, bucketOf}
 use Rattle.sheet.proofs.KeyChains.{Sought, seek-first, seek-next, link-falls, seek-ended, seek-found}
 use Rattle.sheet.proofs.sent.sent.Statement.{statement}
 use Rattle.sheet.proofs.sent.sent.Tie as tie

@@ -12,7 +12,7 @@ use Rattle.sheet.specs.Refusal.{numberOf}
 use Rattle.sheet.specs.Model.{Move, Model, machineCount, moveCount, withMachine, withMove}
 use Rattle.sheet.specs.Parse.{Parsed, Turn, more, ended}
 use Rattle.sheet.specs.Faults.{sameMove}
-use Rattle.sheet.specs.Sent.{keyOf, Small}
+use Rattle.sheet.specs.Kept.Sent.{keyOf, Small}
 
 abbrev pub machineRead : Parsed → ℕ → ℕ → Parsed
 machineRead d modes live = record { model = withMachine (d .model) modes live; bodies = d .bodies }

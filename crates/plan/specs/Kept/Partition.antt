@@ -12,7 +12,7 @@ use Rattle.sheet.specs.Model.{Move, Model}
 use Rattle.plan.specs.declared.partition.Groups.{Groups}
 use Rattle.plan.specs.Groups.{Grouping, groupOf, groupCount, movesOf, namesGroup, namedOutside}
 use Rattle.plan.specs.Modes.{weight}
-use Rattle.plan.specs.Sizes.{capped, cappedSizes}
+use Rattle.plan.specs.Kept.Sizes.{capped, cappedSizes}
 
 -- a number below 32 for each machine of a sheet
 pub record Numbers (x : Sheet) (numbers : List ℕ) : Type 0 where

@@ -11,16 +11,16 @@ use Rattle.common.specs.Lists.{upTo, any, pad}
 use Rattle.common.specs.Reply.{clear}
 use Rattle.sheet.specs.Record.{part}
 use Rattle.sheet.specs.Model.{Move, Model, machineCount, modeCount}
-use Rattle.sheet.specs.Index.{Indexes}
-pub use Rattle.sheet.specs.Index.{Listed}
+use Rattle.sheet.specs.Kept.Indexed.{Indexes}
+pub use Rattle.sheet.specs.Kept.Indexed.{Listed}
 use Rattle.sheet.specs.Valid.{Valid}
 use Rattle.plan.specs.Groups.{Grouping, groupOf, groupCount, namedOutside}
 use Rattle.plan.specs.Modes.{size}
-use Rattle.plan.specs.ModeSets.{ModesHeld}
+use Rattle.plan.specs.Kept.ModeSets.{ModesHeld}
 use Rattle.plan.specs.Bytes.{tableAt}
 use Rattle.plan.specs.Table.{Entry}
 use Rattle.plan.specs.Reading.{groupsIn, entryAt, wellShaped}
-use Rattle.plan.specs.Outline.{Outlined}
+use Rattle.plan.specs.Kept.Outline.{Outlined}
 use Rattle.plan.specs.Laws.{counted}
 use Rattle.plan.specs.declared.opening.Outline.{Outline}
 use Rattle.command.specs.State.{modeOf, stateFaults}

@@ -7,7 +7,7 @@ use lib.Dec.{eqb, ltb}
 use lib.ListN.{length, getD, take, drop}
 use Rattle.common.specs.Bits.{bit}
 use Rattle.common.specs.Lists.{upTo, filter}
-use Rattle.sets.specs.Sets.{lowered, elements}
+use Rattle.sets.specs.Kept.Sets.{lowered, elements}
 use Rattle.decimal.specs.Decimal.{decimal}
 use Rattle.decimal.specs.Meaning.{NoDigitFirst}
 use Rattle.plan.specs.Groups.{Grouping, groupCount, members}
@@ -19,9 +19,9 @@ use Rattle.picture.specs.declared.matching.Counts.{Counts}
 use Rattle.picture.specs.declared.matching.End.{End}
 use Rattle.picture.specs.Picture.{Picture, edgesBy}
 use Rattle.picture.specs.Text.{lastLine, lineStart, labels, textOf}
-use Rattle.picture.specs.Rows.{labelStart, labelEnd, arrow, nodeOf, edgesOf}
+use Rattle.picture.specs.Kept.Rows.{labelStart, labelEnd, arrow, nodeOf, edgesOf}
 use Rattle.picture.specs.Reading.{drawable}
-use Rattle.picture.specs.Shown.{Shown}
+use Rattle.picture.specs.Kept.Shown.{Shown}
 
 -- the text is no picture's
 abbrev pub NoPicture : List ℕ → Type 0

@@ -8,8 +8,8 @@ use lib.Dec.{eqb, ltb}
 use Rattle.common.specs.Bits.{bit}
 use Rattle.common.specs.Lists.{upTo, any, find}
 use Rattle.common.specs.Graph.{Graph, distances}
-use Rattle.sets.specs.Sets.{less, elements}
-use Rattle.search.specs.Search.{graphOf, Holds, Reached}
+use Rattle.sets.specs.Kept.Sets.{less, elements}
+use Rattle.search.specs.Kept.Search.{graphOf, Holds, Reached}
 use Rattle.sheet.specs.Model.{Move}
 use Rattle.plan.specs.Needs.{names}
 use Rattle.plan.specs.Groups.{together}

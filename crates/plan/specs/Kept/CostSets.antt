@@ -7,7 +7,7 @@ use lib.Dec.{eqb}
 use Rattle.common.specs.Bits.{bit}
 use Rattle.common.specs.Lists.{any, sum}
 use Rattle.common.specs.Graph.{Matrix}
-use Rattle.sets.specs.Sets.{elements}
+use Rattle.sets.specs.Kept.Sets.{elements}
 use Rattle.sheet.specs.Model.{Model}
 use Rattle.plan.specs.Groups.{Grouping, namedOutside}
 use Rattle.plan.specs.Modes.{size}

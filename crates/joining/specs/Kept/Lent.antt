@@ -5,7 +5,7 @@ use mathlib.Core.List.{List, [], _∷_, List·Memᴰ}
 use mathlib.Core.Bool.{Bool, true, false}
 use lib.ListN.{length}
 use Rattle.common.specs.Reply.{Reply, given, refused}
-use Rattle.sets.specs.Sets.{both}
+use Rattle.sets.specs.Kept.Sets.{both}
 use Rattle.joining.specs.Join.{Goals, mostGoals, goalsIn}
 
 -- whether a reply gives something

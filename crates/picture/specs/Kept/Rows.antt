@@ -3,7 +3,7 @@ use Prim.Native.Nat.{ℕ}
 use mathlib.Core.List.{List, [], _∷_, _++_, flatMap}
 use lib.ListN.{length, getD}
 use Rattle.common.specs.Lists.{upTo}
-use Rattle.sets.specs.Sets.{elements}
+use Rattle.sets.specs.Kept.Sets.{elements}
 use Rattle.picture.specs.Picture.{edge}
 use Rattle.picture.specs.Text.{firstLine, lastLine, lineStart, labels, edgeLine}
 

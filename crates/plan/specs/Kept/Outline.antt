@@ -1,26 +1,22 @@
--- Judging a plan's shape: what the code keeps of a sheet and of a plan for it, and the reply.
+-- Judging a plan's shape: what the code keeps of a sheet and of a plan for it.
 use Prim.Native.Nat.{ℕ, _+_, _*_, _≤_, _<_}
 use mathlib.Core.Path.{_≡_}
-use mathlib.Core.List.{List, [], _∷_, map}
-use mathlib.Core.Bool.{Bool, true, not, _&&_}
+use mathlib.Core.List.{List, map}
+use mathlib.Core.Bool.{Bool, true, _&&_}
 use lib.ListN.{length, getD}
 use lib.Dec.{eqb}
 use Rattle.common.specs.Lists.{upTo, all, any, sum}
 use Rattle.common.specs.Bits.{bit}
-use Rattle.common.specs.Reply.{Reply, given, refused, fault, unless, andThen}
-use Rattle.sets.specs.Sets.{lowered}
+use Rattle.sets.specs.Kept.Sets.{lowered}
 use Rattle.sheet.specs.declared.index.Sheet.{Sheet}
-use Rattle.sheet.specs.declared.refusal.Verdict.{Verdict}
-use Rattle.sheet.specs.declared.refusal.Verdict.the-variants.{Accepted, Refused}
-use Rattle.sheet.specs.Refusal.{numberOf}
 use Rattle.sheet.specs.Record.{word}
 use Rattle.sheet.specs.Model.{Model}
-use Rattle.sheet.specs.Parse.{parse}
 use Rattle.plan.specs.declared.opening.Outline.{Outline}
 use Rattle.plan.specs.Groups.{groupCount}
 use Rattle.plan.specs.Bytes.{tableAt}
 use Rattle.plan.specs.Reading.{groupsIn, hasRecord, wellShaped}
-use Rattle.plan.specs.Partition.{Partitioned}
+use Rattle.plan.specs.Answers.{verdictSays, shapeReply}
+use Rattle.plan.specs.Kept.Partition.{Partitioned}
 
 -- s holds the numbers below 64 that occur
 pub record Used (numbers : List ℕ) (s : ℕ) : Type 0 where
@@ -54,18 +50,6 @@ endsAt plan at = hasRecord plan at 18 4 && hasRecord plan (at + 8) 3 0 && eqb (l
 -- the bound in the record at a place
 unfoldable pub boundAt : List ℕ → ℕ → ℕ
 boundAt plan at = word plan (at + 4) + 65536 * word plan (at + 6)
-
--- what a verdict says in document 01's terms
-abbrev pub verdictSays : Verdict → Reply Unit
-verdictSays Accepted = given tt
-verdictSays (Refused cause place) = refused (numberOf cause) place
-
--- the reply of the shape alone (15), and with the sheet's tests before it (1 to 8)
-abbrev pub shapeReply : Model → List ℕ → Reply Unit
-shapeReply m plan = unless (fault 15 0 (not (wellShaped m plan)) ∷ []) (given tt)
-
-unfoldable pub outlineReply : List ℕ → List ℕ → Reply Unit
-outlineReply file plan = andThen (parse file) (λ d. shapeReply (d .model) plan)
 
 -- what is kept of a sheet, its index x and its model m, and of a plan in shape for it
 pub record Outlined (x : Sheet) (m : Model) (plan : List ℕ) (r : Outline) : Type 0 where

@@ -1,0 +1,4 @@
+pub mod Matched
+pub mod Rows
+pub mod Shown
+pub mod Turns

@@ -1,0 +1,12 @@
+pub mod CostSets
+pub mod Judged
+pub mod Linked
+pub mod Linking
+pub mod MachineSets
+pub mod Making
+pub mod ModeSets
+pub mod Outline
+pub mod Partition
+pub mod Sizes
+pub mod UsableBy
+pub mod Written

@@ -1,0 +1,4 @@
+pub mod Held
+pub mod Indexed
+pub mod Scan
+pub mod Sent
