@@ -4,6 +4,7 @@
 use duty_compare::both::{apply, join, next_command, own_plan, plan_length, walk};
 use duty_compare::command::{Command, Effect, Next};
 use duty_compare::join::in_one_slice;
+use duty_compare::plan::{HERE, NO_ROUTE};
 use duty_compare::samples::{blocks, dials, filter, stove, Builder};
 use duty_compare::shape::Plan;
 use duty_compare::sheet::Sheet;
@@ -18,6 +19,10 @@ fn bound(sheet: &[u8]) -> Reply<u32> {
 /// The next command from these modes, with no tags.
 fn next(sheet: &[u8], modes: &[u8], goal: &[u8]) -> Reply<Next> {
     next_command(sheet, &own_plan(sheet)?, &untagged(modes), goal)
+}
+
+fn send(machine: u8, command: u8) -> Reply<Next> {
+    Ok(Next::Send(Command { machine, command }))
 }
 
 /// An entry of the sheet's own plan.
@@ -53,11 +58,7 @@ fn case_3_walk_turns_the_board_off_last() {
 
 #[test]
 fn case_4_tripped_burner_is_reset() {
-    let sent = Command {
-        machine: 2,
-        command: 3,
-    };
-    assert_eq!(next(&stove(), &[1, 1, 2], &[2, 2, 2]), Ok(Next::Send(sent)));
+    assert_eq!(next(&stove(), &[1, 1, 2], &[2, 2, 2]), send(2, 3));
 }
 
 #[test]
@@ -105,6 +106,47 @@ fn case_10_four_groups_of_64_fit_and_one_mode_more_does_not() {
     );
     assert!(own_plan(&blocks(4, 0, true)).is_ok());
     assert_eq!(plan_length(&blocks(4, 1, true)), refuse(10, 0));
+}
+
+#[test]
+fn of_the_nearest_modes_the_smallest_is_the_target() {
+    // From 0 one move leads to 3 and one to 2, two lead to 1. The second machine
+    // needs the first anywhere but at 0.
+    let sheet = Builder::new()
+        .machines(1, 4)
+        .machines(1, 2)
+        .step([0, 0, 3, 1], &[])
+        .step([0, 0, 2, 2], &[])
+        .step([0, 2, 1, 3], &[])
+        .step([1, 0, 1, 1], &[[0, 0b1110]])
+        .end();
+    let sent = |goal: &[u8]| next(&sheet, &[0, 0], goal);
+    assert_eq!(sent(&[0b1100]), send(0, 2));
+    assert_eq!(sent(&[0b1110]), send(0, 2));
+    assert_eq!(sent(&[0b1010]), send(0, 1));
+    assert_eq!(sent(&[0b1111, 2]), send(0, 2));
+}
+
+#[test]
+fn no_move_leads_from_a_group_mode_that_is_out_of_order() {
+    // A group of six modes: 4 and 5 have the second machine out of order. The
+    // last move would lead from there alone.
+    let sheet = Builder::new()
+        .machines(1, 2)
+        .machine(3, 3)
+        .step([0, 0, 1, 1], &[[1, 7]])
+        .step([1, 0, 1, 1], &[[0, 3]])
+        .step([0, 1, 0, 2], &[[1, 4]])
+        .end();
+    assert_eq!(entry(&sheet, 0, 0, 1), [1, 0]);
+    assert_eq!(entry(&sheet, 0, 0, 3), [2, 0]);
+    for from in [4, 5] {
+        for wanted in 0..6 {
+            let expected = if wanted == from { HERE } else { NO_ROUTE };
+            assert_eq!(entry(&sheet, 0, from, wanted), expected, "{from} {wanted}");
+        }
+    }
+    assert_eq!(bound(&sheet), Ok(2));
 }
 
 #[test]
