@@ -372,6 +372,30 @@ fn refusal_18_comes_before_17_of_a_lower_group() {
 }
 
 #[test]
+fn refusal_18_looks_at_groups_that_are_needed_through_others() {
+    // Each machine goes on once and needs the one before, in any mode.
+    let sheet = Builder::new()
+        .machines(4, 2)
+        .step([0, 0, 1, 1], &[])
+        .step([1, 0, 1, 1], &[[0, 3]])
+        .step([2, 0, 1, 1], &[[1, 3]])
+        .step([3, 0, 1, 1], &[[2, 3]])
+        .end();
+    let plan = own_plan(&sheet).expect("a plan");
+    let next = |goal: &[u8]| next_command(&sheet, &plan, &[0; 8], goal);
+    // The first is to stay off, and one, two or three groups behind it are to go on.
+    assert_eq!(next(&[1, 2]), refuse(18, 0));
+    assert_eq!(next(&[1, 3, 2]), refuse(18, 0));
+    assert_eq!(next(&[1, 3, 3, 2]), refuse(18, 0));
+    // The highest of those that are to stay off.
+    assert_eq!(next(&[1, 1, 3, 2]), refuse(18, 1));
+    assert_eq!(next(&[1, 3, 1, 2]), refuse(18, 2));
+    // What needs the group that is to go on is not looked at.
+    assert!(next(&[2, 1, 1, 1]).is_ok());
+    assert!(next(&[3, 3, 3, 2]).is_ok());
+}
+
+#[test]
 fn a_file_of_60_000_bytes_is_read_whole() {
     let long = [0; 60_000];
     let unknown = Builder::new().record(9, &long).unfinished();
