@@ -63,6 +63,87 @@ fn a_plan_of_another_shape_is_refused() {
     }
 }
 
+/// Machines of these modes, the second of which needs some others in its second
+/// move, under a plan with these group numbers whose entries all name its first
+/// move; asked for that move.
+fn numbered(modes: &[u8], needed: &[u8], numbers: &[u8]) -> Reply<Next> {
+    let guards: Vec<_> = needed.iter().map(|&machine| [machine, 1]).collect();
+    let sheet = modes
+        .iter()
+        .fold(Builder::new(), |sheet, &count| sheet.machines(1, count))
+        .step([1, 0, 1, 1], &[])
+        .step([1, 1, 0, 1], &guards)
+        .end();
+    let last = *numbers.iter().max().expect("a machine");
+    let plan = (0..=last).fold(Builder::new().record(16, numbers), |plan, group| {
+        let members = modes.iter().zip(numbers).filter(|(_, &of)| of == group);
+        let size: u128 = members.map(|(&count, _)| count as u128).product();
+        // A record's length has two bytes.
+        let length = 2 * size * size % 65536;
+        plan.record(17, &[1, 0].repeat(length as usize / 2))
+    });
+    let plan = plan.record(18, &[0; 4]).end();
+    let state = untagged(&vec![0; modes.len()]);
+    next_command(&sheet, &plan, &state, &[1, 2])
+}
+
+#[test]
+fn no_need_is_above_its_moves_group() {
+    let numbered = |numbers: [u8; 3]| numbered(&[2; 3], &[0, 2], &numbers);
+    let fitting = [
+        [0, 0, 0],
+        [0, 1, 0],
+        [0, 1, 1],
+        [1, 1, 0],
+        [0, 2, 1],
+        [1, 2, 0],
+    ];
+    for numbers in fitting {
+        assert_eq!(numbered(numbers), send(1, 1), "{numbers:?}");
+    }
+    let above = [
+        [1, 0, 0],
+        [0, 0, 1],
+        [1, 0, 1],
+        [0, 1, 2],
+        [2, 1, 0],
+        [1, 0, 2],
+        [2, 0, 1],
+    ];
+    for numbers in above {
+        assert_eq!(numbered(numbers), refuse(15, 0), "{numbers:?}");
+    }
+}
+
+#[test]
+fn a_group_of_a_plan_has_64_modes_and_no_more() {
+    let joined = |modes: &[u8]| numbered(modes, &[], &vec![0; modes.len()]);
+    let fitting: [&[u8]; 4] = [&[8, 8], &[4, 4, 4], &[2; 6], &[7, 3, 3]];
+    for modes in fitting {
+        assert_eq!(joined(modes), send(1, 1), "{modes:?}");
+    }
+    // The fewest that are too many, 128, the most whose table a record can hold,
+    // and those whose table passes two bytes, whose number 32 bits, and 64.
+    let larger: [&[u8]; 9] = [
+        &[7, 5, 2],
+        &[8, 3, 3],
+        &[8, 8, 2],
+        &[6, 6, 5],
+        &[8, 8, 3],
+        &[8, 8, 4],
+        &[8; 11],
+        &[8; 22],
+        &[8; 32],
+    ];
+    for modes in larger {
+        assert_eq!(joined(modes), refuse(15, 0), "{modes:?}");
+    }
+    // The second group of two.
+    let behind = |modes: &[u8]| numbered(modes, &[], &[0, 1, 1, 1]);
+    assert_eq!(behind(&[2, 8, 4, 2]), send(1, 1));
+    assert_eq!(behind(&[2, 8, 8, 2]), refuse(15, 0));
+}
+
 /// Replaces the entry from all off to fan on, burner lit.
 fn with_entry(entry: [u8; 2], modes: [u8; 3]) -> Reply<Next> {
     let at = entry_at(FAN_BURNER, 6, 0, 3);
