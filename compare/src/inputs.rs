@@ -8,13 +8,13 @@ use crate::join::{in_one_slice, MAX_GOALS};
 use crate::pictures::{own_text, Drawing};
 use crate::plan::MIN_SCRATCH;
 use crate::random::{self, Random};
-use crate::samples::{blocks, chain, dials, fullest, stove};
-use crate::sheet::{Sheet, MAX_MACHINES};
+use crate::samples::{blocks, chain, dials, fullest, grid, one_way, stove};
+use crate::sheet::{Sheet, MAX_MACHINES, MAX_MOVES};
 use crate::state::{set_mode, tagged, untagged};
 use crate::version::{Rust, Version};
 use crate::walk::own_plan;
 
-/// The seed of the random sheet.
+/// The seed of the random sheet, and of the order of shuffled commands.
 const RANDOM: u64 = 2611;
 
 const KITCHEN: &[u8] = include_bytes!("../../examples/kitchen/sheet.bin");
@@ -73,6 +73,7 @@ pub fn inputs() -> Vec<Input> {
     ];
     inputs.extend(chains());
     inputs.extend(eight_wishes());
+    inputs.extend(crowded().map(|(name, sheet)| Input::new(name, &sheet).only(&["sheet"])));
     inputs.extend(pictures());
     inputs
 }
@@ -111,6 +112,23 @@ fn eight_wishes() -> [Input; 2] {
     [
         Input::joined("eight-wishes", &sheet, &agreed),
         Input::joined("eight-wishes-19", &sheet, &apart),
+    ]
+}
+
+/// Sheets of 250 moves in which a repeated command is hard to rule out, with their
+/// names: many moves have the same machine and from mode.
+pub fn crowded() -> [(&'static str, Vec<u8>); 6] {
+    let rising: Vec<u8> = (1..=MAX_MOVES as u8).collect();
+    let falling: Vec<u8> = rising.iter().rev().copied().collect();
+    let mut shuffled = rising.clone();
+    Random::new(RANDOM).shuffle(&mut shuffled);
+    [
+        ("rising", one_way(&rising, 0)),
+        ("falling", one_way(&falling, 0)),
+        ("shuffled", one_way(&shuffled, 0)),
+        ("shuffled-8", one_way(&shuffled, 8)),
+        ("grid-2", grid(2)),
+        ("grid-16", grid(16)),
     ]
 }
 

@@ -51,6 +51,13 @@ impl Random {
         (0..length).map(|_| self.byte()).collect()
     }
 
+    /// Puts bytes in another order.
+    pub fn shuffle(&mut self, bytes: &mut [u8]) {
+        for last in (1..bytes.len()).rev() {
+            bytes.swap(last, self.below(last + 1));
+        }
+    }
+
     /// Some of the set bits of a mask, at least one.
     fn some_of(&mut self, mask: u8) -> u8 {
         loop {

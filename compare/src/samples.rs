@@ -2,6 +2,9 @@
 
 use crate::sheet::{MAX_MACHINES, MAX_MOVES};
 
+/// The rows and columns of a square that has room for all moves.
+const GRID: usize = 16;
+
 /// Makes a sheet record by record and checks nothing.
 #[derive(Clone, Default)]
 pub struct Builder {
@@ -217,4 +220,34 @@ pub fn snake() -> Vec<u8> {
             sheet.step([1, row, row + 1, 1], &[[0, side]])
         })
         .end()
+}
+
+/// A machine of two modes whose moves all lead from one to the other, with these
+/// commands and so many guards each.
+pub fn one_way(commands: &[u8], guards: u8) -> Vec<u8> {
+    let sheet = Builder::new().machines(1 + guards as usize, 2);
+    let guards: Vec<_> = (1..=guards).map(|machine| [machine, 1]).collect();
+    let again = |sheet: Builder, &command: &u8| sheet.step([0, 0, 1, command], &guards);
+    commands.iter().fold(sheet, again).end()
+}
+
+/// As many moves as there can be, from sixteen modes: of two machines or of
+/// sixteen. The library follows two chains from a move, through those from its
+/// mode and through those of its bucket, one of 256, until the shorter ends. Here
+/// the moves from each mode have the same sixteen buckets and come by diagonals,
+/// so that the two chains are always equally long.
+pub fn grid(machines: usize) -> Vec<u8> {
+    let froms = GRID / machines;
+    let modes = froms.max(2);
+    let sheet = Builder::new().machines(machines, modes as u8);
+    let crossing = |sheet: Builder, number: usize| {
+        let (row, diagonal) = (number % GRID, number / GRID);
+        let (machine, from) = (row / froms, row % froms);
+        let bucket = 96 + (row + diagonal) % GRID;
+        // The bucket of a move is (157 * (8 * machine + from) + command) % 256.
+        let command = (bucket + 157 * (256 - 8 * machine - from)) % 256;
+        let fields = [machine, from, (from + 1) % modes, command];
+        sheet.step(fields.map(|field| field as u8), &[])
+    };
+    (0..MAX_MOVES).fold(sheet, crossing).end()
 }

@@ -3,6 +3,7 @@
 
 use duty_compare::both::{apply, check_sheet, next_command, own_plan, plan_length, walk};
 use duty_compare::command::{Command, Effect, Next};
+use duty_compare::inputs::crowded;
 use duty_compare::samples::{
     blocks, circle, dials, fullest, longest_plan, product, snake, Builder,
 };
@@ -71,6 +72,23 @@ fn a_repeated_move_is_found_across_the_fullest_sheet() {
     let guards = first + 8..first + 24;
     sheet.copy_within(guards, last + 8);
     assert_eq!(check_sheet(&sheet), refuse(8, last));
+}
+
+/// The last move of a crowded sheet made the same as each one before it.
+#[test]
+fn a_repeated_move_is_found_wherever_the_first_stands() {
+    for (name, sheet) in crowded() {
+        let value = check_sheet(&sheet).expect("a sheet that passes") as usize;
+        let (moves, first, end) = (value / 256, 6 * (value % 256), sheet.len() - 4);
+        assert_eq!(moves, 250, "{name}");
+        let record = (end - first) / moves;
+        let last = end - record;
+        for earlier in (first..last).step_by(record) {
+            let mut again = sheet.clone();
+            again.copy_within(earlier..earlier + record, last);
+            assert_eq!(check_sheet(&again), refuse(8, last), "{name} {earlier}");
+        }
+    }
 }
 
 #[test]
