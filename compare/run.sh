@@ -1,6 +1,7 @@
 #!/usr/bin/env bash
 # Tries the proved library against the Rust version, the C example and the
-# example bytes. The last line is 'N passed, M failed'.
+# examples, and the examples against their texts. The last line is
+# 'N passed, M failed'.
 set -u
 cd "$(dirname "$0")/.."
 passed=0
@@ -252,6 +253,21 @@ long_files() {
     { printf '\x61\xea\x09\x00'; head -c 60000 /dev/zero; } >"$work/cut/sheet.bin"
 }
 
+# What the programs of crates/ are tried on is what the examples have.
+same_data() {
+    local data file example
+    for data in crates/*/data; do
+        case $data in
+            */show_kitchen/*) example=kitchen ;;
+            */show_refused/*) example=refused ;;
+            *) example=stove ;;
+        esac
+        for file in "$data"/*; do
+            cmp "$file" "examples/$example/${file##*/}" || return 1
+        done
+    done
+}
+
 root=$PWD
 long_files
 panel_folders
@@ -288,7 +304,8 @@ check "panel compiles with sanitizers" build_panel panel-sanitized -g \
 panel_checks panel-sanitized
 check "panel compiles with an applying that changes nothing" build_unmoved
 check "panel stops where a command changes nothing" unmoved_stops
-check "examples/make.py writes the committed bytes" python3 examples/make.py --check
+check "./kitchen, and the examples by it" python3 compare/kitchen_test.py
+check "the programs of crates/ are tried on bytes of the examples" same_data
 
 echo "$passed passed, $failed failed"
 [ "$failed" -eq 0 ]
