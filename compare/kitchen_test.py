@@ -657,6 +657,15 @@ class Files(Case):
             (self.folder / name).rmdir()
             os.rename(self.folder / "aside", self.folder / name)
 
+    def test_a_page_by_hand_is_left(self):
+        self.put(TEXT)
+        (self.folder / "README.md").write_text("# My own notes\n")
+        before = sides(self.folder)
+        status, out, wrong = run("write", self.folder)
+        by_hand = "kitchen: FOLDER/README.md was written by hand: give it another name, then write again\n"
+        self.assertEqual((status, out, self.here(wrong)), (2, "", by_hand))
+        self.assertEqual(sides(self.folder), before)
+
     def test_what_differs_is_named_and_left(self):
         self.written()
         (self.folder / "wish.bin").write_bytes(b"\3\3")

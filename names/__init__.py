@@ -1,0 +1,1 @@
+"""A kitchen by names: what ./kitchen is made of."""
