@@ -8,7 +8,7 @@ use crate::join::{in_one_slice, MAX_GOALS};
 use crate::pictures::{own_text, Drawing};
 use crate::plan::MIN_SCRATCH;
 use crate::random::{self, Random};
-use crate::samples::{blocks, chain, dials, fullest, grid, one_way, stove};
+use crate::samples::{blocks, chain, dials, fullest, one_way, stove, two_slots};
 use crate::sheet::{Sheet, MAX_MACHINES, MAX_MOVES};
 use crate::state::{set_mode, tagged, untagged};
 use crate::version::{Rust, Version};
@@ -115,9 +115,9 @@ fn eight_wishes() -> [Input; 2] {
     ]
 }
 
-/// Sheets of 250 moves in which a repeated command is hard to rule out, with their
-/// names: many moves have the same machine and from mode.
-pub fn crowded() -> [(&'static str, Vec<u8>); 6] {
+/// Sheets of 250 moves in which a repeated command may be hard to rule out, with
+/// their names: all moves have one machine and from mode, or two slots.
+pub fn crowded() -> [(&'static str, Vec<u8>); 5] {
     let rising: Vec<u8> = (1..=MAX_MOVES as u8).collect();
     let falling: Vec<u8> = rising.iter().rev().copied().collect();
     let mut shuffled = rising.clone();
@@ -127,8 +127,7 @@ pub fn crowded() -> [(&'static str, Vec<u8>); 6] {
         ("falling", one_way(&falling, 0)),
         ("shuffled", one_way(&shuffled, 0)),
         ("shuffled-8", one_way(&shuffled, 8)),
-        ("grid-2", grid(2)),
-        ("grid-16", grid(16)),
+        ("two-slots", two_slots()),
     ]
 }
 

@@ -1,9 +1,6 @@
 //! Sheets made to measure: a builder, the stove, and the extreme ones.
 
-use crate::sheet::{MAX_MACHINES, MAX_MOVES};
-
-/// The rows and columns of a square that has room for all moves.
-const GRID: usize = 16;
+use crate::sheet::{own_slot, MAX_MACHINES, MAX_MOVES};
 
 /// Makes a sheet record by record and checks nothing.
 #[derive(Clone, Default)]
@@ -231,23 +228,14 @@ pub fn one_way(commands: &[u8], guards: u8) -> Vec<u8> {
     commands.iter().fold(sheet, again).end()
 }
 
-/// As many moves as there can be, from sixteen modes: of two machines or of
-/// sixteen. The library follows two chains from a move, through those from its
-/// mode and through those of its bucket, one of 256, until the shorter ends. Here
-/// the moves from each mode have the same sixteen buckets and come by diagonals,
-/// so that the two chains are always equally long.
-pub fn grid(machines: usize) -> Vec<u8> {
-    let froms = GRID / machines;
-    let modes = froms.max(2);
-    let sheet = Builder::new().machines(machines, modes as u8);
-    let crossing = |sheet: Builder, number: usize| {
-        let (row, diagonal) = (number % GRID, number / GRID);
-        let (machine, from) = (row / froms, row % froms);
-        let bucket = 96 + (row + diagonal) % GRID;
-        // The bucket of a move is (157 * (8 * machine + from) + command) % 256.
-        let command = (bucket + 157 * (256 - 8 * machine - from)) % 256;
-        let fields = [machine, from, (from + 1) % modes, command];
-        sheet.step(fields.map(|field| field as u8), &[])
+/// As many moves as there can be, all looked for first in one of two slots that
+/// stand side by side: the most that finding a repeated one can take.
+pub fn two_slots() -> Vec<u8> {
+    let sheet = Builder::new().machines(MAX_MACHINES, 8);
+    let keys = (0..=u16::MAX).filter(|&key| key % 256 > 0 && own_slot(key) / 2 == 100);
+    let keyed = |sheet: Builder, key: u16| {
+        let from = (key >> 8 & 7) as u8;
+        sheet.step([(key >> 11) as u8, from, (from + 1) % 8, key as u8], &[])
     };
-    (0..MAX_MOVES).fold(sheet, crossing).end()
+    keys.take(MAX_MOVES).fold(sheet, keyed).end()
 }

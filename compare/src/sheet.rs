@@ -194,6 +194,11 @@ struct Sent {
     slots: [u16; 512],
 }
 
+/// The slot of a table of 512 where a key is looked for first.
+pub fn own_slot(key: u16) -> usize {
+    ((key as u32).wrapping_mul(0x9E37_79B1) >> 23) as usize
+}
+
 impl Sent {
     fn new() -> Self {
         Sent { slots: [0; 512] }
@@ -203,7 +208,7 @@ impl Sent {
     #[inline]
     fn insert(&mut self, step: &Move) -> bool {
         let key = (step.machine as u16) << 11 | (step.from as u16) << 8 | step.command as u16;
-        let mut slot = ((key as u32).wrapping_mul(0x9E37_79B1) >> 23) as usize;
+        let mut slot = own_slot(key);
         while self.slots[slot] != 0 {
             if self.slots[slot] == key {
                 return false;
