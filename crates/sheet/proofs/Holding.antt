@@ -8,10 +8,11 @@ use native.Mathlib.Omega.{arith}
 use lib.ListN.{set, replicate, length-map}
 use Rattle.common.specs.Bits.{beyond}
 use Rattle.common.proofs.Pad.{pad-nil}
+use Rattle.sheet.specs.Record.{byte}
 use Rattle.sheet.specs.Model.{Move, Model, withMachine, withMove}
 use Rattle.sheet.specs.Parse.{nothing}
 use Rattle.sheet.specs.Kept.Held.{topOf, Held}
-use Rattle.sheet.specs.Kept.Scan.{MachineFits}
+use Rattle.sheet.proofs.Fits.{MachinePasses}
 use Rattle.sheet.proofs.Arrays.{more-below, more-pairs, fills, one-longer}
 
 pub held-nothing : Held (nothing .model) (record { machines = 0; moves = 0 }) (replicate 256 0) (replicate 32 0)
@@ -30,11 +31,13 @@ held-nothing =
 
 module _ (m : Model) {machines moves : ℕ} {tops live : List ℕ}
     (h : Held m (record { machines = machines; moves = moves }) tops live) where
-  pub held-machine : {at a next top : ℕ} (b : ℕ) → MachineFits m at a b next → top ≡ topOf a
-      → Held (withMachine m a b) (record { machines = machines + 1; moves = moves }) (set tops machines top)
-      (set live machines b)
+  pub held-machine : {top : ℕ} (body : List ℕ) → MachinePasses m body → top ≡ topOf (byte body 0)
+      → Held (withMachine m (byte body 0) (byte body 1)) (record { machines = machines + 1; moves = moves })
+      (set tops machines top) (set live machines (byte body 1))
   unfolding withMachine
-  held-machine {at} {a} {next} b f t =
+  held-machine body f t =
+      let a : ℕ = byte body 0 in
+      let b : ℕ = byte body 1 in
       let n = h .counted .machines-are in
       let room : machines < 32 = omega (arith, f .room) in
       record {
@@ -46,10 +49,10 @@ module _ (m : Model) {machines moves : ℕ} {tops live : List ℕ}
         live-in = fills 32 (m .live) b (h .live-in) (h .live-are) room;
         few-machines = omega arith;
         few-moves = h .few-moves;
-        few-modes = more-below 8 (m .modes) a (h .few-modes) (f .few);
+        few-modes = more-below 8 (m .modes) a (h .few-modes) (f .valid .few-modes);
         live-within =
             more-pairs (λ n mask. beyond n mask ≡ false) (m .modes) (m .live) a b (n ∙ sym (h .live-are))
-            (h .live-within) (f .within);
+            (h .live-within) (f .valid .within);
       }
 
   pub held-move : (v : Move) → moves < 250

@@ -14,8 +14,8 @@ use Rattle.common.proofs.Pad.{getD-pad}
 use Rattle.sheet.specs.declared.judge.Counts.{Counts}
 use Rattle.sheet.specs.Record.{byte}
 use Rattle.sheet.specs.Model.{Model, modeCount, moveOf}
-use Rattle.sheet.specs.Faults.{wrongMoveLength, badMachine, badMove, badGuards, machineFaults}
-use Rattle.sheet.specs.Kept.Held.{fine, deadMove, wrongGuards, ownFaults, Counted, Held}
+use Rattle.sheet.specs.Faults.{wrongMoveLength, badMachine, badMove, badGuards, machineFaults, endFaults, faultsOf}
+use Rattle.sheet.specs.Kept.Held.{fine, deadMove, wrongGuards, ownMoveFaults, ownFaults, Counted, Held}
 use Rattle.sheet.specs.Kept.Sent.{Small}
 use Rattle.sheet.proofs.Fits.{has-modes}
 use Rattle.sheet.proofs.BadMoves.{bad-move-dead}
@@ -40,6 +40,28 @@ unfolding wrongMoveLength
 move-long n e f =
     let q = or-false-left _ _ (sym e ∙ f) in
     (ltb-false _ _ (or-false-left _ _ q), ltb-false _ _ (or-false-right (ltb n 4) _ q))
+
+-- the causes that are judged here, by the kind of the record
+module _ (m : Model) (at kind : ℕ) (body : List ℕ) where
+  pub own-machine : kind ≡ 1 → ownFaults m at kind body ≡ machineFaults m at body
+  unfolding ownFaults faultsOf
+  own-machine k = rw k
+
+  pub own-move : kind ≡ 2 → ownFaults m at kind body ≡ ownMoveFaults m at body
+  unfolding ownFaults
+  own-move k = rw k
+
+  pub own-end : kind ≡ 3 → ownFaults m at kind body ≡ endFaults m at body
+  unfolding ownFaults faultsOf
+  own-end k = rw k
+
+  pub own-unknown : (kind ≡ 1 → ⊥) → (kind ≡ 2 → ⊥) → (kind ≡ 3 → ⊥) → ownFaults m at kind body ≡ fault 2 at true ∷ []
+  unfolding ownFaults faultsOf
+  own-unknown a b c = rw (ne-eqb kind 1 a, ne-eqb kind 2 b, ne-eqb kind 3 c)
+
+  pub own-other : (kind ≡ 2 → ⊥) → ownFaults m at kind body ≡ faultsOf m at kind body
+  unfolding ownFaults
+  own-other b = rw (ne-eqb kind 2 b)
 
 -- what is found in a machine record, test by test
 module _ (m : Model) (at : ℕ) {counts : Counts} (body : List ℕ) (n : Counted m counts) where
@@ -68,8 +90,8 @@ module _ (m : Model) (at : ℕ) {counts : Counts} (body : List ℕ) (n : Counted
 
 -- what is found in a move record, test by test: 2
 pub move-length : (m : Model) (at : ℕ) (body : List ℕ) {a : Bool} → a ≡ wrongMoveLength (length body) → a ≡ true
-    → refused 2 at ≡ unless (ownFaults m at body) fine
-unfolding unless ownFaults
+    → refused 2 at ≡ unless (ownMoveFaults m at body) fine
+unfolding unless ownMoveFaults
 move-length m at body e t = rw (← e, t)
 
 -- and by what is held: 4, 6, 7, and 8 for no command
@@ -82,20 +104,20 @@ module _ (m : Model) (at : ℕ) {counts : Counts} {tops live : List ℕ} (body :
   held-guards : badGuards (m .modes) (moveOf body) ≡ wrongGuards tops (moveOf body)
   held-guards = rw (h .tops-in) (sym (guards-by-tops _ _))
 
-  pub move-early : counts .machines ≡ 0 → refused 4 at ≡ unless (ownFaults m at body) fine
-  unfolding unless ownFaults
+  pub move-early : counts .machines ≡ 0 → refused 4 at ≡ unless (ownMoveFaults m at body) fine
+  unfolding unless ownMoveFaults
   move-early z = rw (t, h .counted .machines-are, eq-eqb _ _ z)
 
   module _ (z : counts .machines ≡ 0 → ⊥) where
-    pub move-many : 250 ≤ counts .moves → refused 4 at ≡ unless (ownFaults m at body) fine
-    unfolding unless ownFaults
+    pub move-many : 250 ≤ counts .moves → refused 4 at ≡ unless (ownMoveFaults m at body) fine
+    unfolding unless ownMoveFaults
     move-many k = rw (t, h .counted .machines-are, ne-eqb _ _ z, h .counted .moves-are, le-leb _ _ k)
 
     module _ {b : Bool} (k : counts .moves < 250) (eb : b ≡ deadMove live (moveOf body)) where
-      placed : unless (ownFaults m at body) fine
+      placed : unless (ownMoveFaults m at body) fine
           ≡ unless
           (fault 6 at b ∷ fault 7 at (wrongGuards tops (moveOf body)) ∷ fault 8 at (eqb (moveOf body .command) 0) ∷ []) fine
-      unfolding unless ownFaults
+      unfolding unless ownMoveFaults
       placed =
           rw (
             t,
@@ -108,19 +130,19 @@ module _ (m : Model) (at : ℕ) {counts : Counts} {tops live : List ℕ} (body :
             held-guards,
           )
 
-      pub move-bad : b ≡ true → refused 6 at ≡ unless (ownFaults m at body) fine
+      pub move-bad : b ≡ true → refused 6 at ≡ unless (ownMoveFaults m at body) fine
       unfolding unless
       move-bad q = sym (placed ∙ rw q)
 
       module _ {c : Bool} (q : b ≡ false) (ec : c ≡ wrongGuards tops (moveOf body)) where
-        pub move-guards : c ≡ true → refused 7 at ≡ unless (ownFaults m at body) fine
+        pub move-guards : c ≡ true → refused 7 at ≡ unless (ownMoveFaults m at body) fine
         unfolding unless
         move-guards w = sym (placed ∙ rw (q, ← ec, w))
 
-        pub move-silent : c ≡ false → byte body 3 ≡ 0 → refused 8 at ≡ unless (ownFaults m at body) fine
+        pub move-silent : c ≡ false → byte body 3 ≡ 0 → refused 8 at ≡ unless (ownMoveFaults m at body) fine
         unfolding unless moveOf
         move-silent w y = sym (placed ∙ rw (q, ← ec, w, eq-eqb _ _ y))
 
-        pub move-fine : c ≡ false → (byte body 3 ≡ 0 → ⊥) → fine ≡ unless (ownFaults m at body) fine
+        pub move-fine : c ≡ false → (byte body 3 ≡ 0 → ⊥) → fine ≡ unless (ownMoveFaults m at body) fine
         unfolding unless moveOf
         move-fine w y = sym (placed ∙ rw (q, ← ec, w, ne-eqb _ _ y))

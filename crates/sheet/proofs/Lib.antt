@@ -13,7 +13,7 @@ pub mod Guards
 pub mod Holding
 pub mod Indexed
 pub mod Judging
-pub mod KeyChains
+pub mod Keyed
 pub mod Keys
 pub mod Modes
 pub mod Order
@@ -21,9 +21,11 @@ pub mod Parsed
 pub mod Passes
 pub mod Place
 pub mod Records
+pub mod ScanTurns
 pub mod Scanning
 pub mod Series
 pub mod SheetBytes
+pub mod Slots
 pub mod Steps
 pub mod Stops
 pub mod Turns

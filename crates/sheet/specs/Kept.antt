@@ -1,4 +1,3 @@
 pub mod Held
 pub mod Indexed
-pub mod Scan
 pub mod Sent

@@ -11,13 +11,13 @@ ghost use mathlib.Core.Path.{_≡_};
 ghost use Prim.Native.Nat.{ℕ, _+_, _*_, _≤_, _<_};
 ghost use lib.ListN.{length};
 ghost use lib.Dec.{ltb, leb};
-ghost use mathlib.Core.Bool.{false, _&&_};
+ghost use mathlib.Core.Bool.{_&&_};
 ghost use Rattle.common.specs.Reply.{unless};
 ghost use Rattle.sheet.specs.Record.{byte};
 ghost use Rattle.sheet.specs.Model.{Model, machineCount, moveOf};
 ghost use Rattle.sheet.specs.Faults.{wrongMoveLength, badMachine, machineFaults, endFaults};
 ghost use Rattle.sheet.specs.Kept.Held.{fine, judgedOf, topOf, deadMove, wrongGuard, wrongGuards};
-ghost use Rattle.sheet.specs.Kept.Held.{ownFaults, Counted, Held};
+ghost use Rattle.sheet.specs.Kept.Held.{ownMoveFaults, ownFaults, Counted, Held};
 
 // What judging a record finds.
 pub enum Judged {
@@ -32,7 +32,7 @@ pub struct Counts {
 }
 
 // 2 for a move.
-pub fn wrong_move_length(n: usize) -> bool
+fn wrong_move_length(n: usize) -> bool
     ensures { λ r. ⌜ r ≡ wrongMoveLength n ⌝ }
 {
     if n < Move::HEAD {
@@ -133,7 +133,7 @@ pub fn first_modes(n: u8) -> u8
 }
 
 // A machine record.
-pub fn judge_machine(body: &[u8], counts: Counts) -> Judged
+fn judge_machine(body: &[u8], counts: Counts) -> Judged
     ensures { λ r. ⌜ ((m : Model) (at : ℕ) → Counted m counts
         → judgedOf r at ≡ unless (machineFaults m at (now (body .entry))) fine) ⌝ }
 {
@@ -152,13 +152,14 @@ pub fn judge_machine(body: &[u8], counts: Counts) -> Judged
     Judged::Fine
 }
 
-// A move record of a right length, by the machines so far; whether an earlier move has its command is not asked here.
-pub fn judge_move(body: &[u8], counts: Counts, tops: &[u8], live: &[u8]) -> Judged
-    requires { ⌜ 4 ≤ length (now body) ⌝ }
+// A move record, by the machines so far; whether an earlier move has its command is not asked here.
+fn judge_move(body: &[u8], counts: Counts, tops: &[u8], live: &[u8]) -> Judged
     ensures { λ r. ⌜ ((m : Model) (at : ℕ) → Held m counts (now (tops .entry)) (now (live .entry))
-        → wrongMoveLength (length (now (body .entry))) ≡ false
-        → judgedOf r at ≡ unless (ownFaults m at (now (body .entry))) fine) ⌝ }
+        → judgedOf r at ≡ unless (ownMoveFaults m at (now (body .entry))) fine) ⌝ }
 {
+    if wrong_move_length(body.len()) {
+        return Judged::Faulty(Cause::WrongKind);
+    }
     if counts.machines == 0 {
         return Judged::Faulty(Cause::Misplaced);
     }
@@ -178,7 +179,7 @@ pub fn judge_move(body: &[u8], counts: Counts, tops: &[u8], live: &[u8]) -> Judg
 }
 
 // An end record, after so many machines.
-pub fn judge_end(body: &[u8], machines: usize) -> Judged
+fn judge_end(body: &[u8], machines: usize) -> Judged
     ensures { λ r. ⌜ ((m : Model) (at : ℕ) → machineCount m ≡ machines
         → judgedOf r at ≡ unless (endFaults m at (now (body .entry))) fine) ⌝ }
 {
@@ -189,4 +190,17 @@ pub fn judge_end(body: &[u8], machines: usize) -> Judged
         return Judged::Faulty(Cause::Misplaced);
     }
     Judged::Fine
+}
+
+// A whole record, by its kind and the machines so far.
+pub fn judge(kind: u16, body: &[u8], counts: Counts, tops: &[u8], live: &[u8]) -> Judged
+    ensures { λ r. ⌜ ((m : Model) (at : ℕ) → Held m counts (now (tops .entry)) (now (live .entry))
+        → judgedOf r at ≡ unless (ownFaults m at kind (now (body .entry))) fine) ⌝ }
+{
+    match kind {
+        1 => judge_machine(body, counts),
+        2 => judge_move(body, counts, tops, live),
+        3 => judge_end(body, counts.machines),
+        _ => Judged::Faulty(Cause::WrongKind),
+    }
 }

@@ -1,14 +1,11 @@
-// The commands of the moves so far. A move is told by its key: machine, from mode and command as one number. Two chains lead
-// back from a key, through those of its machine and mode and through those of its bucket. A search follows both and ends with
-// the shorter one, so that no order and no choice of commands makes it long.
+// The commands of the moves so far. A move is told by its key: machine, from mode and command as one number. Keys are found by a
+// table of 512 slots, never half full: a slot holds one more than the number of a move, or 0 where it is free.
 use crate::record::wide;
 ghost use mathlib.Core.Path.{_≡_};
 ghost use Prim.Native.Nat.{_≤_, _<_};
-ghost use lib.ListN.{length};
-ghost use lib.Dec.{eqb};
-ghost use Rattle.common.specs.Lists.{any};
+ghost use lib.ListN.{length, take};
 ghost use Rattle.sheet.specs.Model.{moveOf};
-ghost use Rattle.sheet.specs.Kept.Sent.{keyOf, pairOf, bucketOf, linksAfter, headsAfter, Sent};
+ghost use Rattle.sheet.specs.Kept.Sent.{keyOf, slotOf, Sent, Sought, Added};
 
 // The key of a move.
 pub fn key_of(body: &[u8]) -> u16
@@ -21,54 +18,38 @@ pub fn key_of(body: &[u8]) -> u16
     ((2048 * machine + 256 * from + command) % 65536) as u16
 }
 
-// Where the chain of a key's machine and from mode begins.
-fn pair_of(key: u16) -> usize
-    ensures { λ r. ⌜ (r ≡ pairOf key) × (r < 256) ⌝ }
+// A key's own slot: neighbouring keys have slots far apart.
+fn slot_of(key: u16) -> usize
+    ensures { λ r. ⌜ (r ≡ slotOf key) × (r < 512) ⌝ }
 {
-    (key / 256) as usize
+    (key as usize) * 2654435761 / 8388608 % 512
 }
 
-// Where the chain of a key's bucket begins, behind all those.
-fn bucket_of(key: u16) -> usize
-    ensures { λ r. ⌜ (r ≡ bucketOf key) × (r < 512) ⌝ }
+// The slot that holds a key or, if none does, the free one where it would be put.
+fn find(keys: &[u16], slots: &[u8], key: u16) -> usize
+    requires { ⌜ Sent (now keys) (now slots) ⌝ }
+    ensures { λ r. ⌜ Sought (now (keys .entry)) (now (slots .entry)) key r ⌝ }
 {
-    256 + (157 * pair_of(key) + key as usize) % 256
-}
-
-// Whether a key is among those so far. A place in a chain is one more than the number of a move, and 0 its end.
-pub fn sent(keys: &[u16], links: &[u8], heads: &[u8], key: u16) -> bool
-    requires { ⌜ Sent (now keys) (now links) (now heads) ⌝ }
-    ensures { λ r. ⌜ r ≡ any (eqb key) (now (keys .entry)) ⌝ }
-{
-    let mut i = wide(heads[pair_of(key)]);
-    let mut j = wide(heads[bucket_of(key)]);
-    while 0 < i {
-        if j == 0 {
-            return false;
+    let mut at = slot_of(key);
+    while slots[at] != 0 {
+        if keys[wide(slots[at]) - 1] == key {
+            return at;
         }
-        if keys[i - 1] == key {
-            return true;
-        }
-        if keys[j - 1] == key {
-            return true;
-        }
-        i = wide(links[i - 1]);
-        j = wide(links[249 + j]);
+        at = (at + 1) % 512;
     }
-    false
+    at
 }
 
-// Puts the key of the next move at the front of its chains.
-pub fn remember(links: &mut [u8], heads: &mut [u8], moves: usize, key: u16)
-    requires { ⌜ (length (now links) ≡ 500) × (length (now heads) ≡ 512) × (moves < 250) ⌝ }
-    ensures links { λ _. ⌜ now (links .exit) ≡ linksAfter (now (links .entry)) (now (heads .entry)) moves key ⌝ }
-    ensures heads { λ _. ⌜ now (heads .exit) ≡ headsAfter (now (heads .entry)) moves key ⌝ }
+// Adds the key of the next move, unless an earlier move has it.
+pub fn added(keys: &mut [u16], slots: &mut [u8], moves: usize, key: u16) -> bool
+    requires { ⌜ Sent (take moves (now keys)) (now slots) × (length (now keys) ≡ 250) × (moves < 250) ⌝ }
+    ensures { λ r. ⌜ Added (now (keys .entry)) moves key r (now (keys .exit)) (now (slots .exit)) ⌝ }
 {
-    let pair = pair_of(key);
-    let bucket = bucket_of(key);
-    let newest = (moves + 1) as u8;
-    links[moves] = heads[pair];
-    links[250 + moves] = heads[bucket];
-    heads[pair] = newest;
-    heads[bucket] = newest;
+    let at = find(&keys[..moves], &slots[..], key);
+    if slots[at] != 0 {
+        return false;
+    }
+    slots[at] = (moves + 1) as u8;
+    keys[moves] = key;
+    true
 }

@@ -1,7 +1,7 @@
 -- What judging keeps of the records read so far, counts and arrays with zeros behind what there is, and how it judges by that.
 use Prim.Native.Nat.{ℕ, _-_, _^_, _≤_}
 use mathlib.Core.Path.{_≡_}
-use mathlib.Core.Bool.{Bool, false, not, _&&_, _||_}
+use mathlib.Core.Bool.{Bool, false, not, cond, _&&_, _||_}
 use mathlib.Core.List.{List, [], _∷_, map}
 use lib.ListN.{length, getD}
 use lib.Dec.{eqb, ltb, leb}
@@ -13,7 +13,7 @@ use Rattle.sheet.specs.declared.judge.Judged.{Judged}
 use Rattle.sheet.specs.declared.judge.Judged.the-variants.{Fine, Faulty}
 use Rattle.sheet.specs.Refusal.{numberOf}
 use Rattle.sheet.specs.Model.{Move, Model, machineCount, moveCount, guardAt, moveOf}
-use Rattle.sheet.specs.Faults.{wrongMoveLength, badMove, badGuards}
+use Rattle.sheet.specs.Faults.{wrongMoveLength, badMove, badGuards, faultsOf}
 
 -- nothing found
 abbrev pub fine : Reply Unit
@@ -46,14 +46,18 @@ unfoldable pub wrongGuards : List ℕ → Move → Bool
 wrongGuards tops v = any (wrongGuard tops v) (upTo (length (v .guards)))
 
 -- the causes of a move but for a command that an earlier move has
-unfoldable pub ownFaults : Model → ℕ → List ℕ → List Fault
-ownFaults m at body =
+unfoldable pub ownMoveFaults : Model → ℕ → List ℕ → List Fault
+ownMoveFaults m at body =
     fault 2 at (wrongMoveLength (length body))
     ∷ fault 4 at (eqb (machineCount m) 0 || leb 250 (moveCount m))
     ∷ fault 6 at (badMove (m .modes) (m .live) (moveOf body))
     ∷ fault 7 at (badGuards (m .modes) (moveOf body))
     ∷ fault 8 at (eqb (moveOf body .command) 0)
     ∷ []
+
+-- the causes of a record, that one aside
+unfoldable pub ownFaults : Model → ℕ → ℕ → List ℕ → List Fault
+ownFaults m at kind body = cond (eqb kind 2) (ownMoveFaults m at body) (faultsOf m at kind body)
 
 -- the counts of a model
 pub record Counted (m : Model) (counts : Counts) : Type 0 where

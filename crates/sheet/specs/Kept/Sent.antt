@@ -1,8 +1,12 @@
--- How scanning keeps the commands of the moves so far: a key for each move, and chains through the keys, newest first.
-use Prim.Native.Nat.{ℕ, _+_, _-_, _*_, _/_, _%_, _≤_, _<_}
+-- How reading a sheet keeps the commands of the moves so far: a key for each move, and a table of 512 slots by which a key is found. A
+-- key's move stands at the key's own slot or, where that is taken, at the next free one behind it; behind the last slot comes the first.
+use Prim.Native.Nat.{ℕ, _+_, _*_, _/_, _%_, _≤_, _<_}
 use mathlib.Core.Path.{_≡_}
-use mathlib.Core.List.{List}
-use lib.ListN.{length, getD, set}
+use mathlib.Core.Bool.{Bool, true, not, cond}
+use mathlib.Core.List.{List, [], _∷_, _++_, List·Memᴰ}
+use lib.Dec.{eqb, ltb}
+use lib.ListN.{length, getD, set, take}
+use Rattle.common.specs.Lists.{any}
 use Rattle.sheet.specs.Model.{Move}
 
 -- a move's machine, from mode and command as one two-byte number
@@ -15,37 +19,45 @@ pub record Small (v : Move) : Type 0 where
   pub from : v .from < 8
   pub command : v .command < 256
 
--- Where a key's chains begin: that of its machine and from mode, and that of its bucket. The bucket of a key with a given machine
--- and mode goes up with the command, and neighbouring machines and modes begin far apart.
-unfoldable pub pairOf : ℕ → ℕ
-pairOf key = key / 256 % 256
+-- a key's own slot
+unfoldable pub slotOf : ℕ → ℕ
+slotOf key = key * 2654435761 / 8388608 % 512
 
-unfoldable pub bucketOf : ℕ → ℕ
-bucketOf key = 256 + (157 * pairOf key + key) % 256
+-- the slot so far behind a slot
+unfoldable pub behind : ℕ → ℕ → ℕ
+behind slot far = (slot + far) % 512
 
--- the place of the last of the first n keys that is on the chain s: its number and one more, or 0
-pub record Latest (chain : ℕ → ℕ) (keys : List ℕ) (s place n : ℕ) : Type 0 where
-  pub within : place ≤ n
-  pub on : 0 < place → chain (getD keys (place - 1) 0) ≡ s
-  pub none-later : (j : ℕ) → place ≤ j → j < n → chain (getD keys j 0) ≡ s → ⊥
+-- a slot behind a key's own, with none free before it
+pub record Reached (slots : List ℕ) (key slot : ℕ) : Type 0 where
+  pub far : ℕ
+  pub place : slot ≡ behind (slotOf key) far
+  pub taken : (e : ℕ) → e < far → 0 < getD slots (behind (slotOf key) e) 0
 
--- the heads lead to the last key of each chain, and the links, from some offset on, from each key to the one before it
-pub record Chained (chain : ℕ → ℕ) (offset : ℕ) (keys links heads : List ℕ) : Type 0 where
-  pub newest : (key : ℕ) → Latest chain keys (chain key) (getD heads (chain key) 0) (length keys)
-  pub before : (j : ℕ) → j < length keys → Latest chain keys (chain (getD keys j 0)) (getD links (offset + j) 0) j
+-- the move of a key stands in such a slot: one more than its number
+pub record Stands (slots : List ℕ) (key n : ℕ) : Type 0 where
+  pub slot : ℕ
+  pub reached : Reached slots key slot
+  pub there : getD slots slot 0 ≡ n
 
--- both chains, of at most 250 keys
-pub record Sent (keys links heads : List ℕ) : Type 0 where
+-- a table of at most 250 keys
+pub record Sent (keys slots : List ℕ) : Type 0 where
   pub few : length keys ≤ 250
-  pub links-long : length links ≡ 500
-  pub heads-long : length heads ≡ 512
-  pub pairs : Chained pairOf 0 keys links heads
-  pub buckets : Chained bucketOf 250 keys links heads
+  pub slots-long : length slots ≡ 512
+  pub within : (slot : ℕ) → getD slots slot 0 ≤ length keys
+  pub stands : (j : ℕ) → j < length keys → Stands slots (getD keys j 0) (j + 1)
+  -- the slots that are taken, as many as there are keys
+  pub places : List ℕ
+  pub one-each : length places ≡ length keys
+  pub listed : (slot : ℕ) → 0 < getD slots slot 0 → List·Memᴰ slot places
 
--- the arrays with the key of move n at the front of its chains
-unfoldable pub linksAfter : List ℕ → List ℕ → ℕ → ℕ → List ℕ
-linksAfter links heads n key =
-    set (set links n (getD heads (pairOf key) 0)) (250 + n) (getD heads (bucketOf key) 0)
+-- where a search for a key ends: at the slot that holds it, or at a free one
+pub record Sought (keys slots : List ℕ) (key slot : ℕ) : Type 0 where
+  pub inside : slot < 512
+  pub reached : Reached slots key slot
+  pub tells : any (eqb key) keys ≡ ltb 0 (getD slots slot 0)
 
-unfoldable pub headsAfter : List ℕ → ℕ → ℕ → List ℕ
-headsAfter heads n key = set (set heads (pairOf key) (n + 1)) (bucketOf key) (n + 1)
+-- whether the key of move n is a new one, and what is kept then
+pub record Added (keys : List ℕ) (n key : ℕ) (new : Bool) (keys' slots' : List ℕ) : Type 0 where
+  pub earlier : any (eqb key) (take n keys) ≡ not new
+  pub keys-are : keys' ≡ cond new (set keys n key) keys
+  pub sent : new ≡ true → Sent (take n keys ++ (key ∷ [])) slots'

@@ -2,129 +2,209 @@ use Prim.Native.Nat.{_+_, _-_}
 use borrow.Author.Needs.{needs}
 use mathlib.Core.Path.{sym}
 use native.Mathlib.Omega.{arith}
-use Rattle.sheet.proofs.Scanning.{Scanned, scan-start, tops-long, lives-long, keys-long, first-long, sent-so-far, index-is}
-use Rattle.sheet.proofs.Scanning.{machine-room, machine-few, machine-less, scan-machine}
-use Rattle.sheet.proofs.Scanning.{move-room, move-less, place-fits, scan-repeated, scan-move}
-use Rattle.sheet.proofs.Scanning.{scan-ended, scan-refused, reading-accepted, reading-refused}
+use Rattle.sheet.proofs.Records.{whole-within}
+use Rattle.sheet.proofs.Scanning.{Scanned, scan-start, lives-long, tops-long, keys-long, keys-sent, index-is, scan-cut, reading-refused}
+use Rattle.sheet.proofs.ScanTurns.{turned, scan-faulty, machine-bytes, machine-room, machine-few, machine-less, scan-machine}
+use Rattle.sheet.proofs.ScanTurns.{move-bytes, move-room, move-less, place-fits, scan-repeated, scan-move}
+use Rattle.sheet.proofs.ScanTurns.{reading-ended}
 use Rattle.sheet.proofs.scan.read.Statement.{statement}
 use Rattle.sheet.proofs.scan.read.Tie as tie
 
 abbrev Inv-loop : tie.InvT-loop
-Inv-loop s sizes₀ lives₀ bodies₀ tops₀ keys₀ links₀ heads₀ machines₀ moves₀ at₀
-    sizes lives bodies tops keys links heads machines moves at =
-    Scanned s sizes lives bodies tops keys links heads machines moves at
+Inv-loop s sheet₀ lives₀ tops₀ keys₀ slots₀ at₀ sheet lives tops keys slots at = Scanned s sheet lives tops keys slots at
 
 abbrev μ-loop : tie.MeasureT-loop
-μ-loop s sizes₀ lives₀ bodies₀ tops₀ keys₀ links₀ heads₀ machines₀ moves₀ at₀
-    sizes lives bodies tops keys links heads machines moves at = 283 - (machines + moves)
+μ-loop s sheet₀ lives₀ tops₀ keys₀ slots₀ at₀ sheet lives tops keys slots at = 283 - (sheet .machines + sheet .moves)
+
+empty-requires : tie.Need-empty-requires Inv-loop μ-loop
+empty-requires c κs = search needs
 
 loop-holds : tie.Need-loop-holds Inv-loop μ-loop
-loop-holds c = scan-start _
+loop-holds c = scan-start _ (c .empty .ensures)
 
-slice-aggregate-record-step : tie.Need-slice-aggregate-record-step Inv-loop μ-loop
-slice-aggregate-record-step c = sym (tops-long _ (c .before .loop .inv))
+record-at-requires : tie.Need-record-at-requires Inv-loop μ-loop
+record-at-requires c κs = search needs
 
-slice-aggregate-record-step-2 : tie.Need-slice-aggregate-record-step-2 Inv-loop μ-loop
-slice-aggregate-record-step-2 c = sym (lives-long _ (c .before .before .loop .inv))
+enum-known-kind : tie.Need-enum-known-kind Inv-loop μ-loop
+enum-known-kind c = search needs
 
-record-step-requires : tie.Need-record-step-requires Inv-loop μ-loop
-record-step-requires c κs = search needs
-
-enum-known-t : tie.Need-enum-known-t Inv-loop μ-loop
-enum-known-t c = search needs
-
-array-write-sizes : tie.Need-array-write-sizes Inv-loop μ-loop
-array-write-sizes c = machine-room _ (c .before .before .before .before .before .before .loop .inv) (c .before .before .before .record-step .ensures) (c .before .t .given .1)
-
-array-write-lives : tie.Need-array-write-lives Inv-loop μ-loop
-array-write-lives c = machine-room _ (c .before .before .before .before .before .before .loop .inv) (c .before .before .before .record-step .ensures) (c .before .t .given .1)
-
-first-modes-requires : tie.Need-first-modes-requires Inv-loop μ-loop
-first-modes-requires c κs = machine-few _ (c .before .before .before .before .before .before .loop .inv) (c .before .before .before .record-step .ensures) (c .before .t .given .1)
-
-array-write-tops : tie.Need-array-write-tops Inv-loop μ-loop
-array-write-tops c = omega (arith, machine-room _ (c .before .before .before .before .before .before .before .loop .inv) (c .before .before .before .before .record-step .ensures) (c .before .before .t .given .1))
-
-add-machines : tie.Need-add-machines Inv-loop μ-loop
-add-machines c = omega (arith, machine-room _ (c .before .before .before .before .before .before .before .loop .inv) (c .before .before .before .before .record-step .ensures) (c .before .before .t .given .1))
-
-loop-less : tie.Need-loop-less Inv-loop μ-loop
-loop-less c = machine-less _ (c .before .before .before .before .before .before .before .loop .inv) (c .before .before .before .before .record-step .ensures) (c .before .before .t .given .1)
-
-loop-again : tie.Need-loop-again Inv-loop μ-loop
-loop-again c = scan-machine _ (c .before .before .before .before .before .before .before .loop .inv) (c .before .before .before .before .record-step .ensures) (c .before .before .t .given .1) (c .first-modes .ensures)
-
-enum-known-t-2 : tie.Need-enum-known-t-2 Inv-loop μ-loop
-enum-known-t-2 c = search needs
-
-array-share-prefix-keys : tie.Need-array-share-prefix-keys Inv-loop μ-loop
-array-share-prefix-keys c = omega (arith, keys-long _ (c .before .before .before .before .before .before .loop .inv), move-room _ (c .before .before .before .before .before .before .loop .inv) (c .before .before .before .record-step .ensures) (c .before .t2 .given .1))
-
-slice-aggregate-sent : tie.Need-slice-aggregate-sent Inv-loop μ-loop
-slice-aggregate-sent c = sym (first-long _ (c .before .before .before .before .before .before .before .loop .inv))
-
-slice-aggregate-sent-2 : tie.Need-slice-aggregate-sent-2 Inv-loop μ-loop
-slice-aggregate-sent-2 c = sym ((c .before .before .before .before .before .before .before .before .loop .inv) .sent .links-long)
-
-slice-aggregate-sent-3 : tie.Need-slice-aggregate-sent-3 Inv-loop μ-loop
-slice-aggregate-sent-3 c = sym ((c .before .before .before .before .before .before .before .before .before .loop .inv) .sent .heads-long)
-
-sent-requires : tie.Need-sent-requires Inv-loop μ-loop
-sent-requires c κs = sent-so-far _ (c .before .before .before .before .before .before .before .before .before .loop .inv)
+enum-told : tie.Need-enum-told Inv-loop μ-loop
+enum-told c = search needs
 
 refusal-requires : tie.Need-refusal-requires Inv-loop μ-loop
 refusal-requires c κs = search needs
 
 returns : tie.Need-returns Inv-loop μ-loop
-returns c = reading-refused _ (c .refusal .result) (c .refusal .ensures) (scan-repeated _ (c .before .before .before .before .before .before .before .before .before .before .before .before .loop .inv) (c .before .before .before .before .before .before .before .before .before .record-step .ensures) (c .before .before .before .before .before .before .before .t2 .given .1) (c .before .before .sent .ensures) (c .before .if1 .taken))
+returns c = reading-refused _ (c .refusal .result) (c .refusal .ensures) (scan-cut _ (c .before .before .before .before .loop .inv) (c .before .before .before .record-at .ensures) (c .before .enum-told .given .1))
 
-slice-aggregate-remember : tie.Need-slice-aggregate-remember Inv-loop μ-loop
-slice-aggregate-remember c = sym ((c .before .before .before .before .before .before .before .before .before .before .before .before .loop .inv) .sent .links-long)
+add-end : tie.Need-add-end Inv-loop μ-loop
+add-end c = omega (arith, whole-within _ _ (c .before .before .before .record-at .ensures) (c .before .kind .given .1))
 
-slice-aggregate-remember-2 : tie.Need-slice-aggregate-remember-2 Inv-loop μ-loop
-slice-aggregate-remember-2 c = sym ((c .before .before .before .before .before .before .before .before .before .before .before .before .before .loop .inv) .sent .heads-long)
+sub-body : tie.Need-sub-body Inv-loop μ-loop
+sub-body c = search needs
 
-remember-requires : tie.Need-remember-requires Inv-loop μ-loop
-remember-requires c κs = ((c .before .before .before .before .before .before .before .before .before .before .before .before .before .loop .inv) .sent .links-long, (c .before .before .before .before .before .before .before .before .before .before .before .before .before .loop .inv) .sent .heads-long, move-room _ (c .before .before .before .before .before .before .before .before .before .before .before .before .before .loop .inv) (c .before .before .before .before .before .before .before .before .before .before .record-step .ensures) (c .before .before .before .before .before .before .before .before .t2 .given .1))
+part-body-start : tie.Need-part-body-start Inv-loop μ-loop
+part-body-start c = search needs
 
-mul-keys : tie.Need-mul-keys Inv-loop μ-loop
-mul-keys c = omega (arith, move-room _ (c .before .before .before .before .before .before .before .before .before .before .before .before .before .before .before .before .loop .inv) (c .before .before .before .before .before .before .before .before .before .before .before .before .before .record-step .ensures) (c .before .before .before .before .before .before .before .before .before .before .before .t2 .given .1))
+part-body-end : tie.Need-part-body-end Inv-loop μ-loop
+part-body-end c = whole-within _ _ (c .before .before .before .record-at .ensures) (c .before .kind .given .1)
 
-array-write-keys : tie.Need-array-write-keys Inv-loop μ-loop
-array-write-keys c = move-room _ (c .before .before .before .before .before .before .before .before .before .before .before .before .before .before .before .before .loop .inv) (c .before .before .before .before .before .before .before .before .before .before .before .before .before .record-step .ensures) (c .before .before .before .before .before .before .before .before .before .before .before .t2 .given .1)
+slice-aggregate-judge : tie.Need-slice-aggregate-judge Inv-loop μ-loop
+slice-aggregate-judge c = sym (tops-long _ (c .before .before .before .before .before .before .loop .inv))
 
-cast-bodies : tie.Need-cast-bodies Inv-loop μ-loop
-cast-bodies c = place-fits _ (c .before .before .before .before .before .before .before .before .before .before .before .before .before .before .before .before .loop .inv) (c .before .before .before .before .before .before .before .before .before .before .before .before .before .record-step .ensures) (c .before .before .before .before .before .before .before .before .before .before .before .t2 .given .1)
+slice-aggregate-judge-2 : tie.Need-slice-aggregate-judge-2 Inv-loop μ-loop
+slice-aggregate-judge-2 c = sym (lives-long _ (c .before .before .before .before .before .before .before .loop .inv))
 
-mul-bodies : tie.Need-mul-bodies Inv-loop μ-loop
-mul-bodies c = omega (arith, move-room _ (c .before .before .before .before .before .before .before .before .before .before .before .before .before .before .before .before .loop .inv) (c .before .before .before .before .before .before .before .before .before .before .before .before .before .record-step .ensures) (c .before .before .before .before .before .before .before .before .before .before .before .t2 .given .1))
+judge-requires : tie.Need-judge-requires Inv-loop μ-loop
+judge-requires c κs = search needs
 
-array-write-bodies : tie.Need-array-write-bodies Inv-loop μ-loop
-array-write-bodies c = move-room _ (c .before .before .before .before .before .before .before .before .before .before .before .before .before .before .before .before .loop .inv) (c .before .before .before .before .before .before .before .before .before .before .before .before .before .record-step .ensures) (c .before .before .before .before .before .before .before .before .before .before .before .t2 .given .1)
-
-add-moves : tie.Need-add-moves Inv-loop μ-loop
-add-moves c = omega (arith, move-room _ (c .before .before .before .before .before .before .before .before .before .before .before .before .before .before .before .before .loop .inv) (c .before .before .before .before .before .before .before .before .before .before .before .before .before .record-step .ensures) (c .before .before .before .before .before .before .before .before .before .before .before .t2 .given .1))
-
-loop-less-2 : tie.Need-loop-less-2 Inv-loop μ-loop
-loop-less-2 c = move-less _ (c .before .before .before .before .before .before .before .before .before .before .before .before .before .before .before .before .loop .inv) (c .before .before .before .before .before .before .before .before .before .before .before .before .before .record-step .ensures) (c .before .before .before .before .before .before .before .before .before .before .before .t2 .given .1)
-
-loop-again-2 : tie.Need-loop-again-2 Inv-loop μ-loop
-loop-again-2 c = scan-move _ (c .before .before .before .before .before .before .before .before .before .before .before .before .before .before .before .before .loop .inv) (c .before .before .before .before .before .before .before .before .before .before .before .before .before .record-step .ensures) (c .before .before .before .before .before .before .before .before .before .before .before .t2 .given .1) (c .before .before .before .before .before .before .sent .ensures) (c .before .before .before .before .before .if1 .left) (c .before .before .remember .ensures .0) (c .before .before .remember .ensures .1)
-
-enum-told : tie.Need-enum-told Inv-loop μ-loop
-enum-told c = search needs
-
-returns-2 : tie.Need-returns-2 Inv-loop μ-loop
-returns-2 c = reading-accepted _ (index-is _ (c .before .before .before .before .before .loop .inv)) (scan-ended _ (c .before .before .before .before .before .loop .inv) (c .before .before .record-step .ensures) (c .enum-told .given .1))
-
-enum-known-t-3 : tie.Need-enum-known-t-3 Inv-loop μ-loop
-enum-known-t-3 c = search needs
+enum-known-j : tie.Need-enum-known-j Inv-loop μ-loop
+enum-known-j c = search needs
 
 refusal-requires-2 : tie.Need-refusal-requires-2 Inv-loop μ-loop
 refusal-requires-2 c κs = search needs
 
+returns-2 : tie.Need-returns-2 Inv-loop μ-loop
+returns-2 c =
+    let turn = c .before .before .before .before in
+    let t = turned _ (turn .before .before .before .before .before .before .before .before .loop .inv) (turn .before .before .before .before .before .before .before .record-at .ensures) (turn .before .before .before .before .before .kind .given .1) (turn .judge .ensures) in
+    reading-refused _ (c .refusal2 .result) (c .refusal2 .ensures) (scan-faulty t (c .before .before .j .given .1))
+
+enum-told-2 : tie.Need-enum-told-2 Inv-loop μ-loop
+enum-told-2 c = search needs
+
+shared-slice-read-sheet : tie.Need-shared-slice-read-sheet Inv-loop μ-loop
+shared-slice-read-sheet c =
+    let turn = c .before .before .before .before in
+    let t = turned _ (turn .before .before .before .before .before .before .before .before .loop .inv) (turn .before .before .before .before .before .before .before .record-at .ensures) (turn .before .before .before .before .before .kind .given .1) (turn .judge .ensures) in
+    omega (arith, machine-bytes t (c .before .before .enum-told2 .given .1) (c .before .match3 .keys1))
+
+element-write-sheet : tie.Need-element-write-sheet Inv-loop μ-loop
+element-write-sheet c =
+    let turn = c .before .before .before .before in
+    let t = turned _ (turn .before .before .before .before .before .before .before .before .loop .inv) (turn .before .before .before .before .before .before .before .record-at .ensures) (turn .before .before .before .before .before .kind .given .1) (turn .judge .ensures) in
+    machine-room t (c .before .before .enum-told2 .given .1) (c .before .match3 .keys1)
+
+shared-slice-read-lives : tie.Need-shared-slice-read-lives Inv-loop μ-loop
+shared-slice-read-lives c =
+    let turn = c .before .before .before .before .before in
+    let t = turned _ (turn .before .before .before .before .before .before .before .before .loop .inv) (turn .before .before .before .before .before .before .before .record-at .ensures) (turn .before .before .before .before .before .kind .given .1) (turn .judge .ensures) in
+    omega (arith, machine-bytes t (c .before .before .before .enum-told2 .given .1) (c .before .before .match3 .keys1))
+
+array-write-lives : tie.Need-array-write-lives Inv-loop μ-loop
+array-write-lives c =
+    let turn = c .before .before .before .before .before in
+    let t = turned _ (turn .before .before .before .before .before .before .before .before .loop .inv) (turn .before .before .before .before .before .before .before .record-at .ensures) (turn .before .before .before .before .before .kind .given .1) (turn .judge .ensures) in
+    machine-room t (c .before .before .before .enum-told2 .given .1) (c .before .before .match3 .keys1)
+
+add-sheet : tie.Need-add-sheet Inv-loop μ-loop
+add-sheet c =
+    let turn = c .before .before .before .before .before in
+    let t = turned _ (turn .before .before .before .before .before .before .before .before .loop .inv) (turn .before .before .before .before .before .before .before .record-at .ensures) (turn .before .before .before .before .before .kind .given .1) (turn .judge .ensures) in
+    omega (arith, machine-room t (c .before .before .before .enum-told2 .given .1) (c .before .before .match3 .keys1))
+
+shared-slice-read-first-modes : tie.Need-shared-slice-read-first-modes Inv-loop μ-loop
+shared-slice-read-first-modes c =
+    let turn = c .before .before .before .before .before .before in
+    let t = turned _ (turn .before .before .before .before .before .before .before .before .loop .inv) (turn .before .before .before .before .before .before .before .record-at .ensures) (turn .before .before .before .before .before .kind .given .1) (turn .judge .ensures) in
+    omega (arith, machine-bytes t (c .before .before .before .before .enum-told2 .given .1) (c .before .before .before .match3 .keys1))
+
+first-modes-requires : tie.Need-first-modes-requires Inv-loop μ-loop
+first-modes-requires c κs =
+    let turn = c .before .before .before .before .before .before in
+    let t = turned _ (turn .before .before .before .before .before .before .before .before .loop .inv) (turn .before .before .before .before .before .before .before .record-at .ensures) (turn .before .before .before .before .before .kind .given .1) (turn .judge .ensures) in
+    machine-few t (c .before .before .before .before .enum-told2 .given .1) (c .before .before .before .match3 .keys1)
+
+array-write-tops : tie.Need-array-write-tops Inv-loop μ-loop
+array-write-tops c =
+    let turn = c .before .before .before .before .before .before .before in
+    let t = turned _ (turn .before .before .before .before .before .before .before .before .loop .inv) (turn .before .before .before .before .before .before .before .record-at .ensures) (turn .before .before .before .before .before .kind .given .1) (turn .judge .ensures) in
+    omega (arith, machine-room t (c .before .before .before .before .before .enum-told2 .given .1) (c .before .before .before .before .match3 .keys1))
+
+loop-less : tie.Need-loop-less Inv-loop μ-loop
+loop-less c =
+    let turn = c .before .before .before .before .before .before .before in
+    let t = turned _ (turn .before .before .before .before .before .before .before .before .loop .inv) (turn .before .before .before .before .before .before .before .record-at .ensures) (turn .before .before .before .before .before .kind .given .1) (turn .judge .ensures) in
+    machine-less t (c .before .before .before .before .before .enum-told2 .given .1) (c .before .before .before .before .match3 .keys1)
+
+loop-again : tie.Need-loop-again Inv-loop μ-loop
+loop-again c =
+    let turn = c .before .before .before .before .before .before .before in
+    let t = turned _ (turn .before .before .before .before .before .before .before .before .loop .inv) (turn .before .before .before .before .before .before .before .record-at .ensures) (turn .before .before .before .before .before .kind .given .1) (turn .judge .ensures) in
+    scan-machine t (c .before .before .before .before .before .enum-told2 .given .1) (c .before .before .before .before .match3 .keys1) (c .first-modes .ensures)
+
+slice-aggregate-added : tie.Need-slice-aggregate-added Inv-loop μ-loop
+slice-aggregate-added c = sym (keys-long _ (c .before .before .before .before .before .before .before .before .before .before .before .before .loop .inv))
+
+slice-aggregate-added-2 : tie.Need-slice-aggregate-added-2 Inv-loop μ-loop
+slice-aggregate-added-2 c = sym (c .before .before .before .before .before .before .before .before .before .before .before .before .before .loop .inv .keyed .table .slots-long)
+
+key-of-requires : tie.Need-key-of-requires Inv-loop μ-loop
+key-of-requires c κs =
+    let turn = c .before .before .before .before .before in
+    let t = turned _ (turn .before .before .before .before .before .before .before .before .loop .inv) (turn .before .before .before .before .before .before .before .record-at .ensures) (turn .before .before .before .before .before .kind .given .1) (turn .judge .ensures) in
+    move-bytes t (c .before .before .before .enum-told2 .given .1) (c .before .before .match3 .keys2)
+
+added-requires : tie.Need-added-requires Inv-loop μ-loop
+added-requires c κs =
+    let turn = c .before .before .before .before .before .before in
+    let t = turned _ (turn .before .before .before .before .before .before .before .before .loop .inv) (turn .before .before .before .before .before .before .before .record-at .ensures) (turn .before .before .before .before .before .kind .given .1) (turn .judge .ensures) in
+    (keys-sent _ (t .scanned), keys-long _ (t .scanned), move-room t (c .before .before .before .before .enum-told2 .given .1) (c .before .before .before .match3 .keys2))
+
+refusal-requires-3 : tie.Need-refusal-requires-3 Inv-loop μ-loop
+refusal-requires-3 c κs = search needs
+
 returns-3 : tie.Need-returns-3 Inv-loop μ-loop
-returns-3 c = reading-refused _ (c .refusal2 .result) (c .refusal2 .ensures) (scan-refused _ (c .before .before .before .before .before .before .before .loop .inv) (c .before .before .before .before .record-step .ensures) (c .before .before .t3 .given .1))
+returns-3 c =
+    let turn = c .before .before .before .before .before .before .before .before .before .before .before in
+    let t = turned _ (turn .before .before .before .before .before .before .before .before .loop .inv) (turn .before .before .before .before .before .before .before .record-at .ensures) (turn .before .before .before .before .before .kind .given .1) (turn .judge .ensures) in
+    reading-refused _ (c .refusal3 .result) (c .refusal3 .ensures)
+    (scan-repeated t (c .before .before .before .before .before .before .before .before .before .enum-told2 .given .1) (c .before .before .before .before .before .before .before .before .match3 .keys2) (λ i. omega (arith, c .before .before .before .before .before .before .before .before .before .before .before .before .before .before .before .before .before .before .before .before .before .shared-slice-known .given i)) (c .before .before .before .before .before .key-of .ensures) (c .before .before .before .before .added .ensures) (c .before .if1 .taken))
+
+cast-sheet : tie.Need-cast-sheet Inv-loop μ-loop
+cast-sheet c =
+    let turn = c .before .before .before .before .before .before .before .before .before .before in
+    let t = turned _ (turn .before .before .before .before .before .before .before .before .loop .inv) (turn .before .before .before .before .before .before .before .record-at .ensures) (turn .before .before .before .before .before .kind .given .1) (turn .judge .ensures) in
+    place-fits t (c .before .before .before .before .before .before .before .before .enum-told2 .given .1) (c .before .before .before .before .before .before .before .match3 .keys2)
+
+mul-sheet : tie.Need-mul-sheet Inv-loop μ-loop
+mul-sheet c =
+    let turn = c .before .before .before .before .before .before .before .before .before .before in
+    let t = turned _ (turn .before .before .before .before .before .before .before .before .loop .inv) (turn .before .before .before .before .before .before .before .record-at .ensures) (turn .before .before .before .before .before .kind .given .1) (turn .judge .ensures) in
+    omega (arith, move-room t (c .before .before .before .before .before .before .before .before .enum-told2 .given .1) (c .before .before .before .before .before .before .before .match3 .keys2))
+
+element-write-sheet-2 : tie.Need-element-write-sheet-2 Inv-loop μ-loop
+element-write-sheet-2 c =
+    let turn = c .before .before .before .before .before .before .before .before .before .before in
+    let t = turned _ (turn .before .before .before .before .before .before .before .before .loop .inv) (turn .before .before .before .before .before .before .before .record-at .ensures) (turn .before .before .before .before .before .kind .given .1) (turn .judge .ensures) in
+    move-room t (c .before .before .before .before .before .before .before .before .enum-told2 .given .1) (c .before .before .before .before .before .before .before .match3 .keys2)
+
+add-sheet-2 : tie.Need-add-sheet-2 Inv-loop μ-loop
+add-sheet-2 c =
+    let turn = c .before .before .before .before .before .before .before .before .before .before in
+    let t = turned _ (turn .before .before .before .before .before .before .before .before .loop .inv) (turn .before .before .before .before .before .before .before .record-at .ensures) (turn .before .before .before .before .before .kind .given .1) (turn .judge .ensures) in
+    omega (arith, move-room t (c .before .before .before .before .before .before .before .before .enum-told2 .given .1) (c .before .before .before .before .before .before .before .match3 .keys2))
+
+loop-less-2 : tie.Need-loop-less-2 Inv-loop μ-loop
+loop-less-2 c =
+    let turn = c .before .before .before .before .before .before .before .before .before .before in
+    let t = turned _ (turn .before .before .before .before .before .before .before .before .loop .inv) (turn .before .before .before .before .before .before .before .record-at .ensures) (turn .before .before .before .before .before .kind .given .1) (turn .judge .ensures) in
+    move-less t (c .before .before .before .before .before .before .before .before .enum-told2 .given .1) (c .before .before .before .before .before .before .before .match3 .keys2)
+
+loop-again-2 : tie.Need-loop-again-2 Inv-loop μ-loop
+loop-again-2 c =
+    let turn = c .before .before .before .before .before .before .before .before .before .before in
+    let t = turned _ (turn .before .before .before .before .before .before .before .before .loop .inv) (turn .before .before .before .before .before .before .before .record-at .ensures) (turn .before .before .before .before .before .kind .given .1) (turn .judge .ensures) in
+    scan-move t (c .before .before .before .before .before .before .before .before .enum-told2 .given .1) (c .before .before .before .before .before .before .before .match3 .keys2) (λ i. omega (arith, c .before .before .before .before .before .before .before .before .before .before .before .before .before .before .before .before .before .before .before .before .shared-slice-known .given i)) (c .before .before .before .before .key-of .ensures) (c .before .before .before .added .ensures) (c .if1 .left)
+
+ended-requires : tie.Need-ended-requires Inv-loop μ-loop
+ended-requires c κs = search needs
+
+returns-4 : tie.Need-returns-4 Inv-loop μ-loop
+returns-4 c =
+    let turn = c .before .before .before .before in
+    let t = turned _ (turn .before .before .before .before .before .before .before .before .loop .inv) (turn .before .before .before .before .before .before .before .record-at .ensures) (turn .before .before .before .before .before .kind .given .1) (turn .judge .ensures) in
+    reading-ended t (c .before .before .enum-told2 .given .1) (c .before .match3 .rest .0 .1) (c .before .match3 .rest .1) (c .ended .result) (index-is _ (t .scanned)) (c .ended .ensures)
 
 pub read-spec : {M : Type 1} → statement M
 read-spec =
@@ -132,39 +212,45 @@ read-spec =
     (tie.spec
     Inv-loop
     μ-loop
+    empty-requires
     loop-holds
-    slice-aggregate-record-step
-    slice-aggregate-record-step-2
-    record-step-requires
-    enum-known-t
-    array-write-sizes
-    array-write-lives
-    first-modes-requires
-    array-write-tops
-    add-machines
-    loop-less
-    loop-again
-    enum-known-t-2
-    array-share-prefix-keys
-    slice-aggregate-sent
-    slice-aggregate-sent-2
-    slice-aggregate-sent-3
-    sent-requires
+    record-at-requires
+    enum-known-kind
+    enum-told
     refusal-requires
     returns
-    slice-aggregate-remember
-    slice-aggregate-remember-2
-    remember-requires
-    mul-keys
-    array-write-keys
-    cast-bodies
-    mul-bodies
-    array-write-bodies
-    add-moves
+    add-end
+    sub-body
+    part-body-start
+    part-body-end
+    slice-aggregate-judge
+    slice-aggregate-judge-2
+    judge-requires
+    enum-known-j
+    refusal-requires-2
+    returns-2
+    enum-told-2
+    shared-slice-read-sheet
+    element-write-sheet
+    shared-slice-read-lives
+    array-write-lives
+    add-sheet
+    shared-slice-read-first-modes
+    first-modes-requires
+    array-write-tops
+    loop-less
+    loop-again
+    slice-aggregate-added
+    slice-aggregate-added-2
+    key-of-requires
+    added-requires
+    refusal-requires-3
+    returns-3
+    cast-sheet
+    mul-sheet
+    element-write-sheet-2
+    add-sheet-2
     loop-less-2
     loop-again-2
-    enum-told
-    returns-2
-    enum-known-t-3
-    refusal-requires-2
-    returns-3)
+    ended-requires
+    returns-4)
