@@ -180,29 +180,15 @@ module _ {s : List ℕ} {sheet : Sheet} {lives tops keys slots : List ℕ} {at k
 
   -- the end
   module _ (q : j ≡ Fine) (k : kind ≡ 1 → ⊥) (l : kind ≡ 2 → ⊥) where
-    scan-trailing : start + len < length s → parse s ≡ refused 3 (start + len)
+    pub scan-trailing : start + len < length s → parse s ≡ refused 3 (start + len)
     scan-trailing y =
         h .leads
         ∙ turn-refused s at d (left s h) (one-left s h)
         (turn-end s at d (t .begins) (t .whole) (t .its-body) found q k l ∙ unless-first (fault 3 (start + len) _) [] _ (lt-ltb _ _ y))
 
-    scan-ended : length s ≤ start + len → parse s ≡ given d
+    pub scan-ended : length s ≤ start + len → parse s ≡ given d
     scan-ended n =
         h .leads
         ∙ turn-ended s at d (left s h) (one-left s h)
         (turn-end s at d (t .begins) (t .whole) (t .its-body) found q k l
         ∙ unless-clear (fault 3 (start + len) _ ∷ []) _ (le-ltb _ _ n, tt))
-
-    -- the reply that it gets
-    pub reading-ended : (r : Reading) {x : Sheet} → x ≡ indexOf d
-        → (readingOf r ≡ unless (fault 3 (start + len) (ltb (start + len) (length s)) ∷ []) (given x))
-        × (r .sheet ≡ cond (ltb (start + len) (length s)) (indexOf nothing) x)
-        → (readingOf r ≡ indexReply (parse s)) × (r .sheet ≡ sheetOf (parse s))
-    unfolding unless
-    reading-ended r e told =
-        by-cases (ltb (start + len) (length s))
-        (λ y. reading-refused s r (rw y at told) (scan-trailing (ltb-true _ _ y)))
-        (λ n.
-        let p = scan-ended (ltb-false _ _ n) in
-        let a = rw n at told in
-        (a .0 ∙ ap given e ∙ sym (ap indexReply p), a .1 ∙ e ∙ sym (ap sheetOf p)))

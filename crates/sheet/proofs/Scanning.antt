@@ -91,8 +91,12 @@ module _ (s : List ℕ) {sheet : Sheet} {lives tops keys slots : List ℕ} {at :
   pub scan-cut : {r : Record} → r ≡ recordAt s at → r ≡ Cut → parse s ≡ refused 1 at
   scan-cut e w = h .leads ∙ parse-cut s at (h .parsed) left one-left (sym e ∙ w)
 
--- the reply to a faulty sheet
+-- the reply, from what parsing the file finds
 module _ (s : List ℕ) where
+  pub reading-accepted : {x : Sheet} {d : Parsed} → x ≡ indexOf d → parse s ≡ given d
+      → (given x ≡ indexReply (parse s)) × (x ≡ sheetOf (parse s))
+  reading-accepted e p = (ap given e ∙ sym (ap indexReply p), e ∙ sym (ap sheetOf p))
+
   pub reading-refused : (r : Reading) {number place : ℕ}
       → (readingOf r ≡ refused number place) × (r .sheet ≡ indexOf nothing)
       → parse s ≡ refused number place → (readingOf r ≡ indexReply (parse s)) × (r .sheet ≡ sheetOf (parse s))

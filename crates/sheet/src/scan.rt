@@ -11,10 +11,7 @@ use crate::refusal::Verdict;
 use crate::sent::added;
 use crate::sent::key_of;
 ghost use mathlib.Core.Path.{_≡_};
-ghost use mathlib.Core.Bool.{cond};
-ghost use mathlib.Core.List.{[], _∷_};
-ghost use lib.Dec.{ltb};
-ghost use Rattle.common.specs.Reply.{given, refused, fault, unless};
+ghost use Rattle.common.specs.Reply.{refused};
 ghost use Rattle.sheet.specs.Refusal.{numberOf};
 ghost use Rattle.sheet.specs.Parse.{nothing, parse};
 ghost use Rattle.sheet.specs.Index.{indexOf, readingOf, indexReply, sheetOf};
@@ -26,20 +23,6 @@ fn refusal(cause: Cause, place: usize) -> Reading
     Reading {
         verdict: Verdict::Refused(cause, place),
         sheet: Sheet::empty(),
-    }
-}
-
-// The reply to a sheet that ends at a place of a file of some size.
-fn ended(sheet: Sheet, end: usize, size: usize) -> Reading
-    ensures { λ r. ⌜ (readingOf r ≡ unless (fault 3 end (ltb end size) ∷ []) (given sheet))
-        × (r .sheet ≡ cond (ltb end size) (indexOf nothing) sheet) ⌝ }
-{
-    if end < size {
-        return refusal(Cause::TrailingBytes, end);
-    }
-    Reading {
-        verdict: Verdict::Accepted,
-        sheet,
     }
 }
 
@@ -87,8 +70,12 @@ pub fn read(s: &[u8]) -> Reading
                 at = end;
             }
             _ => {
+                if end < s.len() {
+                    return refusal(Cause::TrailingBytes, end);
+                }
                 sheet.live = lives;
-                return ended(sheet, end, s.len());
+                let verdict = Verdict::Accepted;
+                return Reading { verdict, sheet };
             }
         }
     }

@@ -3,10 +3,12 @@ use borrow.Author.Needs.{needs}
 use mathlib.Core.Path.{sym}
 use native.Mathlib.Omega.{arith}
 use Rattle.sheet.proofs.Records.{whole-within}
-use Rattle.sheet.proofs.Scanning.{Scanned, scan-start, lives-long, tops-long, keys-long, keys-sent, index-is, scan-cut, reading-refused}
-use Rattle.sheet.proofs.ScanTurns.{turned, scan-faulty, machine-bytes, machine-room, machine-few, machine-less, scan-machine}
+use Rattle.sheet.proofs.Scanning.{Scanned, scan-start, lives-long, tops-long, keys-long, keys-sent, index-is, scan-cut}
+use Rattle.sheet.proofs.Scanning.{reading-accepted, reading-refused}
+use Rattle.sheet.proofs.ScanTurns.{turned, scan-faulty}
+use Rattle.sheet.proofs.ScanTurns.{machine-bytes, machine-room, machine-few, machine-less, scan-machine}
 use Rattle.sheet.proofs.ScanTurns.{move-bytes, move-room, move-less, place-fits, scan-repeated, scan-move}
-use Rattle.sheet.proofs.ScanTurns.{reading-ended}
+use Rattle.sheet.proofs.ScanTurns.{scan-trailing, scan-ended}
 use Rattle.sheet.proofs.scan.read.Statement.{statement}
 use Rattle.sheet.proofs.scan.read.Tie as tie
 
@@ -197,14 +199,20 @@ loop-again-2 c =
     let t = turned _ (turn .before .before .before .before .before .before .before .before .loop .inv) (turn .before .before .before .before .before .before .before .record-at .ensures) (turn .before .before .before .before .before .kind .given .1) (turn .judge .ensures) in
     scan-move t (c .before .before .before .before .before .before .before .before .enum-told2 .given .1) (c .before .before .before .before .before .before .before .match3 .keys2) (λ i. omega (arith, c .before .before .before .before .before .before .before .before .before .before .before .before .before .before .before .before .before .before .before .before .shared-slice-known .given i)) (c .before .before .before .before .key-of .ensures) (c .before .before .before .added .ensures) (c .if1 .left)
 
-ended-requires : tie.Need-ended-requires Inv-loop μ-loop
-ended-requires c κs = search needs
+refusal-requires-4 : tie.Need-refusal-requires-4 Inv-loop μ-loop
+refusal-requires-4 c κs = search needs
 
 returns-4 : tie.Need-returns-4 Inv-loop μ-loop
 returns-4 c =
+    let turn = c .before .before .before .before .before in
+    let t = turned _ (turn .before .before .before .before .before .before .before .before .loop .inv) (turn .before .before .before .before .before .before .before .record-at .ensures) (turn .before .before .before .before .before .kind .given .1) (turn .judge .ensures) in
+    reading-refused _ (c .refusal4 .result) (c .refusal4 .ensures) (scan-trailing t (c .before .before .before .enum-told2 .given .1) (c .before .before .match3 .rest .0 .1) (c .before .before .match3 .rest .1) (c .before .if2 .taken))
+
+returns-5 : tie.Need-returns-5 Inv-loop μ-loop
+returns-5 c =
     let turn = c .before .before .before .before in
     let t = turned _ (turn .before .before .before .before .before .before .before .before .loop .inv) (turn .before .before .before .before .before .before .before .record-at .ensures) (turn .before .before .before .before .before .kind .given .1) (turn .judge .ensures) in
-    reading-ended t (c .before .before .enum-told2 .given .1) (c .before .match3 .rest .0 .1) (c .before .match3 .rest .1) (c .ended .result) (index-is _ (t .scanned)) (c .ended .ensures)
+    reading-accepted _ (index-is _ (t .scanned)) (scan-ended t (c .before .before .enum-told2 .given .1) (c .before .match3 .rest .0 .1) (c .before .match3 .rest .1) (c .if2 .left))
 
 pub read-spec : {M : Type 1} → statement M
 read-spec =
@@ -252,5 +260,6 @@ read-spec =
     add-sheet-2
     loop-less-2
     loop-again-2
-    ended-requires
-    returns-4)
+    refusal-requires-4
+    returns-4
+    returns-5)
