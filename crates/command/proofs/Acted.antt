@@ -20,9 +20,9 @@ use Rattle.sheet.specs.Refusal.{numberOf}
 use Rattle.sheet.specs.Record.{byte, bodyAt}
 use Rattle.sheet.specs.Model.{Model, moveAt, moveOf}
 use Rattle.sheet.specs.Kept.Indexed.{Indexes}
-use Rattle.sheet.proofs.Indexed.{indexes-valid, indexes-moves}
+use Rattle.sheet.proofs.Indexed.{indexes-valid, indexes-moves, indexes-body}
 use Rattle.plan.specs.Answers.{verdictSays}
-use Rattle.plan.proofs.MoveTurns.{turn-move}
+use Rattle.plan.proofs.MoveTurns.{turn-present, turn-move}
 use Rattle.command.specs.State.{withMode, stateFaults}
 use Rattle.command.specs.Apply.{Answers, Applied, Effect, actingMove, stateBy, appliedBy, effectReply, applyReply, stateAfter}
 use Rattle.command.proofs.Shape.{sound-state}
@@ -49,6 +49,9 @@ module _ {file : List ℕ} {x : Sheet} {m : Model} (i : Indexes file x m) (state
 
     pub acted-place : {w : ℕ} → w ≡ v → w < x .moves
     acted-place q = omega (arith, acted-answers .there, indexes-moves i)
+
+    pub acted-long : {w : ℕ} {body : List ℕ} → w ≡ v → body ≡ bodyAt file (getD (x .bodies) w 0 - 4) → 3 < length body
+    acted-long {w} q b = rw b (indexes-body i w (turn-present i (acted-place q)) .long)
 
     pub acted-within : clear (stateFaults m state) ≡ true → 2 * machine < length state
     acted-within h =

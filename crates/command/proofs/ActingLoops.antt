@@ -15,12 +15,10 @@ use Rattle.common.proofs.Bools.{and-intro, and-false-left, and-false-right, tru
 use Rattle.common.proofs.Lists.{all-at, all-append, all-map}
 use Rattle.common.proofs.Members.{upTo-mem}
 use Rattle.common.proofs.Search.{find-upTo-is, find-upTo-none}
-use Rattle.sheet.specs.declared.index.Sheet.{Sheet}
 use Rattle.sheet.specs.Record.{byte, bodyAt}
 use Rattle.sheet.specs.Model.{Guard, Model, moveOf}
-use Rattle.sheet.specs.Kept.Indexed.{Indexes}
-use Rattle.sheet.proofs.Indexed.{indexes-moves, indexes-body}
-use Rattle.plan.proofs.MoveTurns.{turn-present, turn-move}
+use Rattle.sheet.specs.Kept.Indexed.{Listed}
+use Rattle.sheet.proofs.Indexed.{listed-present, listed-move}
 use Rattle.command.specs.State.{modeOf, tagOf}
 use Rattle.command.specs.Apply.{acts, actingMove}
 use Rattle.command.proofs.Acts.{acts-answers}
@@ -120,17 +118,13 @@ unanswered-tagged m state machine command e n =
 pub unanswered-none : (m : Model) (state : List ℕ) (machine command : ℕ) → Unanswered m state machine command 0
 unanswered-none m state machine command = record { none = below-none (λ j. acts m state machine command j ≡ false) }
 
-pub turn-head : {s : List ℕ} {x : Sheet} {m : Model} → Indexes s x m → {v : ℕ} → v < x .moves
-    → {b : List ℕ} → b ≡ bodyAt s (getD (x .bodies) v 0 - 4) → 3 < length b
-turn-head i {v} h e = rw e (indexes-body i v (turn-present i h) .long)
-
-module _ {s state : List ℕ} {x : Sheet} {machine command : ℕ} {m : Model} (i : Indexes s x m) where
+module _ {file bodies state : List ℕ} {machine command : ℕ} {m : Model} (l : Listed m file bodies) where
   module _ {mode v : ℕ} {body : List ℕ} {r : Bool} (free : tagOf state machine ≡ 0) (e : mode ≡ modeOf state machine)
-      (u : Unanswered m state machine command v) (h : v < x .moves) (b : body ≡ bodyAt s (getD (x .bodies) v 0 - 4))
-      (a : r ≡ answering state body machine mode command) where
+      (u : Unanswered m state machine command v) (h : v < length bodies)
+      (b : body ≡ bodyAt file (getD bodies v 0 - 4)) (a : r ≡ answering state body machine mode command) where
     acts-here : acts m state machine command v ≡ r
     unfolding acts
-    acts-here = sym (rw (turn-move i h b, e) at a ∙ rw free (sym (and-true _)))
+    acts-here = sym (rw (listed-move l h b, e) at a ∙ rw free (sym (and-true _)))
 
     pub unanswered-next : r ≡ false → Unanswered m state machine command (v + 1)
     unanswered-next f =
@@ -139,10 +133,10 @@ module _ {s state : List ℕ} {x : Sheet} {machine command : ℕ} {m : Model} (i
     pub answered-here : r ≡ true → v ≡ actingMove m state machine command
     unfolding actingMove
     answered-here t =
-        sym (find-upTo-is (acts m state machine command) 255 v (turn-present i h) (acts-here ∙ t) (u .none))
+        sym (find-upTo-is (acts m state machine command) 255 v (listed-present l h) (acts-here ∙ t) (u .none))
 
-  pub unanswered-end : {v : ℕ} → Unanswered m state machine command v → x .moves ≤ v
+  pub unanswered-end : {v : ℕ} → Unanswered m state machine command v → length bodies ≤ v
       → 255 ≡ actingMove m state machine command
   unfolding actingMove
   unanswered-end u h =
-      sym (find-upTo-none (acts m state machine command) 255 (λ j l. u .none j (omega (arith, indexes-moves i))))
+      sym (find-upTo-none (acts m state machine command) 255 (λ j n. u .none j (omega (arith, l .one-each))))

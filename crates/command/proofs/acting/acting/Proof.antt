@@ -2,19 +2,21 @@ use Prim.Native.Nat.{_-_, _<_}
 use mathlib.Core.Path.{sym, _∙_}
 use native.Mathlib.Omega.{arith}
 use borrow.Author.Needs.{needs}
+use lib.ListN.{length}
 use Rattle.sheet.specs.Model.{Model}
-use Rattle.sheet.specs.Kept.Indexed.{Indexes}
-use Rattle.plan.proofs.MoveTurns.{turn-place, turn-behind}
+use Rattle.sheet.specs.Kept.Indexed.{Listed}
+use Rattle.sheet.proofs.Indexed.{listed-behind, listed-long}
+use Rattle.plan.proofs.PassingMoves.{turn-few}
 use Rattle.command.proofs.ActingLoops.{Unanswered, unanswered-none, unanswered-tagged, unanswered-next, unanswered-end}
-use Rattle.command.proofs.ActingLoops.{turn-head, answered-here}
+use Rattle.command.proofs.ActingLoops.{answered-here}
 use Rattle.command.proofs.acting.acting.Statement.{statement}
 use Rattle.command.proofs.acting.acting.Tie as tie
 
 abbrev Inv-loop : tie.InvT-loop
-Inv-loop file state m command sheet mode v₀ v = (d : Model) → Indexes file sheet d → Unanswered d state (m .0) command v
+Inv-loop file bodies state m command mode v₀ v = (d : Model) → Listed d file bodies → Unanswered d state (m .0) command v
 
 abbrev μ-loop : tie.MeasureT-loop
-μ-loop file state m command sheet mode v₀ v = sheet .moves - v
+μ-loop file bodies state m command mode v₀ v = length bodies - v
 
 tag-of-requires : tie.Need-tag-of-requires Inv-loop μ-loop
 tag-of-requires c κs = search needs
@@ -29,25 +31,25 @@ loop-holds : tie.Need-loop-holds Inv-loop μ-loop
 loop-holds c d i = unanswered-none d _ _ _
 
 mul-start : tie.Need-mul-start Inv-loop μ-loop
-mul-start c = let l : c .before .loop .v < 250 = search turn-place in omega arith
+mul-start c = search needs
 
-element-copy-out-start : tie.Need-element-copy-out-start Inv-loop μ-loop
-element-copy-out-start c = search turn-place
+shared-slice-read-start : tie.Need-shared-slice-read-start Inv-loop μ-loop
+shared-slice-read-start c = search needs
 
 cast-start : tie.Need-cast-start Inv-loop μ-loop
-cast-start c = search needs
+cast-start c = omega (arith, c .shared-slice-known4 .given (c .before .before .loop .v))
 
 sub-body : tie.Need-sub-body Inv-loop μ-loop
-sub-body c = search turn-behind
+sub-body c = search listed-behind
 
 body-requires : tie.Need-body-requires Inv-loop μ-loop
 body-requires c κs = search needs
 
 answers-requires : tie.Need-answers-requires Inv-loop μ-loop
-answers-requires c κs = search turn-head
+answers-requires c κs = search listed-long
 
 cast-result : tie.Need-cast-result Inv-loop μ-loop
-cast-result c = let l : c .before .before .before .before .before .loop .v < 250 = search turn-place in omega arith
+cast-result c = let l : c .before .before .before .before .before .loop .v < 250 = search turn-few in omega arith
 
 returns-2 : tie.Need-returns-2 Inv-loop μ-loop
 returns-2 c d i =
@@ -59,7 +61,7 @@ returns-2 c d i =
     (at-test .loop-test .taken) (at-body .body .ensures) (c .before .answers .ensures) (c .if2 .taken)
 
 add-v : tie.Need-add-v Inv-loop μ-loop
-add-v c = let l : c .before .before .before .before .before .loop .v < 250 = search turn-place in omega arith
+add-v c = search needs
 
 loop-less : tie.Need-loop-less Inv-loop μ-loop
 loop-less c = search needs
@@ -87,7 +89,7 @@ acting-spec =
     mode-of-requires
     loop-holds
     mul-start
-    element-copy-out-start
+    shared-slice-read-start
     cast-start
     sub-body
     body-requires
