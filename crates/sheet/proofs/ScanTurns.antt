@@ -2,17 +2,15 @@
 -- Assumes nothing.
 use Prim.Native.Nat.{ℕ, _+_, _-_, _≤_, _<_}
 use mathlib.Core.Path.{_≡_, sym, ap, _∙_}
-use mathlib.Core.Bool.{Bool, true, false, not, cond}
-use mathlib.Core.List.{List, [], _∷_}
+use mathlib.Core.Bool.{Bool, true, false, not}
+use mathlib.Core.List.{List, [], _∷_, map}
 use native.Mathlib.Omega.{arith}
-use borrow.Author.Tests.{not-false, ltb-true, ltb-false, lt-ltb, le-ltb}
-use lib.Dec.{ltb}
+use borrow.Author.Tests.{not-false, lt-ltb, le-ltb}
 use mir.Val.{Fits}
 use mir.Syntax.{w16}
-use lib.ListN.{length, set, take, drop}
+use lib.ListN.{length, set, take, drop, length-map}
 use Rattle.common.specs.Lists.{any}
 use Rattle.common.specs.Reply.{given, refused, fault, unless}
-use Rattle.common.proofs.Bools.{by-cases}
 use Rattle.common.proofs.Reply.{unless-clear, unless-first}
 use Rattle.sheet.specs.declared.record.Record.{Record}
 use Rattle.sheet.specs.declared.record.Record.the-variants.{Whole}
@@ -20,15 +18,13 @@ use Rattle.sheet.specs.declared.refusal.Cause.{Cause}
 use Rattle.sheet.specs.declared.judge.Judged.{Judged}
 use Rattle.sheet.specs.declared.judge.Judged.the-variants.{Fine, Faulty}
 use Rattle.sheet.specs.declared.index.Sheet.{Sheet}
-use Rattle.sheet.specs.declared.index.Reading.{Reading}
 use Rattle.sheet.specs.Refusal.{numberOf}
 use Rattle.sheet.specs.Record.{byte, recordAt, bodyAt}
 use Rattle.sheet.specs.Model.{Model, moveOf, withMachine, withMove}
 use Rattle.sheet.specs.Faults.{sameMove}
-use Rattle.sheet.specs.Parse.{Parsed, nothing, parse}
-use Rattle.sheet.specs.Index.{indexOf, readingOf, indexReply, sheetOf}
+use Rattle.sheet.specs.Parse.{Parsed, parse}
 use Rattle.sheet.specs.Kept.Held.{fine, judgedOf, topOf, ownFaults, Held}
-use Rattle.sheet.specs.Kept.Sent.{keyOf, Small, Added}
+use Rattle.sheet.specs.Kept.Sent.{keyOf, Small, Sent, Added}
 use Rattle.sheet.proofs.Arrays.{fills, one-longer}
 use Rattle.sheet.proofs.Fits.{MachinePasses}
 use Rattle.sheet.proofs.Judging.{passed-small}
@@ -38,12 +34,12 @@ use Rattle.sheet.proofs.Records.{whole-starts, body-whole, body-part, p
 use Rattle.sheet.proofs.Steps.{machineRead, moveRead, ends-behind, turn-faulty, MoveFits}
 use Rattle.sheet.proofs.Steps.{machine-fits, turn-machine, move-fits, turn-move, turn-end}
 use Rattle.sheet.proofs.Turns.{turn-ended, turn-refused}
-use Rattle.sheet.proofs.Scanning.{Scanned, left, one-left, leads-on, reading-refused}
+use Rattle.sheet.proofs.Scanning.{Scanned, left, one-left, leads-on}
 
 -- a turn: the record at the place is whole and has been judged
-pub record Turned (s : List ℕ) (sheet : Sheet) (lives tops keys slots : List ℕ) (at kind start len : ℕ) (body : List ℕ)
+pub record Turned (s : List ℕ) (sheet : Sheet) (lives tops pairs commands : List ℕ) (at kind start len : ℕ) (body : List ℕ)
     (j : Judged) : Type 0 where
-  pub scanned : Scanned s sheet lives tops keys slots at
+  pub scanned : Scanned s sheet lives tops pairs commands at
   pub begun : Record
   pub begins : begun ≡ recordAt s at
   pub whole : begun ≡ Whole kind start len
@@ -52,19 +48,19 @@ pub record Turned (s : List ℕ) (sheet : Sheet) (lives tops keys slots : List �
       → Held m (record { machines = sheet .machines; moves = sheet .moves }) tops lives
       → judgedOf j place ≡ unless (ownFaults m place kind body) fine
 
-module _ (s : List ℕ) {sheet : Sheet} {lives tops keys slots : List ℕ} {at : ℕ} where
-  pub turned : {r : Record} {kind start len : ℕ} {j : Judged} → Scanned s sheet lives tops keys slots at → r ≡ recordAt s at
+module _ (s : List ℕ) {sheet : Sheet} {lives tops pairs commands : List ℕ} {at : ℕ} where
+  pub turned : {r : Record} {kind start len : ℕ} {j : Judged} → Scanned s sheet lives tops pairs commands at → r ≡ recordAt s at
       → r ≡ Whole kind start len
       → ((m : Model) (place : ℕ)
       → Held m (record { machines = sheet .machines; moves = sheet .moves }) tops lives
       → judgedOf j place ≡ unless (ownFaults m place kind (take (start + len - start) (drop start s))) fine)
-      → Turned s sheet lives tops keys slots at kind start len (take (start + len - start) (drop start s)) j
+      → Turned s sheet lives tops pairs commands at kind start len (take (start + len - start) (drop start s)) j
   turned h e w f =
       record { scanned = h; begun = _; begins = e; whole = w; its-body = body-whole s at e w; judged = f }
 
-module _ {s : List ℕ} {sheet : Sheet} {lives tops keys slots : List ℕ} {at kind start len : ℕ} {body : List ℕ} {j : Judged}
-    (t : Turned s sheet lives tops keys slots at kind start len body j) where
-  abbrev h : Scanned s sheet lives tops keys slots at
+module _ {s : List ℕ} {sheet : Sheet} {lives tops pairs commands : List ℕ} {at kind start len : ℕ} {body : List ℕ} {j : Judged}
+    (t : Turned s sheet lives tops pairs commands at kind start len body j) where
+  abbrev h : Scanned s sheet lives tops pairs commands at
   h = t .scanned
 
   abbrev d : Parsed
@@ -100,7 +96,7 @@ module _ {s : List ℕ} {sheet : Sheet} {lives tops keys slots : List ℕ} {at k
           modes = set (sheet .modes) (sheet .machines) (byte body 0);
           live = sheet .live;
           bodies = sheet .bodies;
-        }) (set lives (sheet .machines) (byte body 1)) (set tops (sheet .machines) top) keys slots (start + len)
+        }) (set lives (sheet .machines) (byte body 1)) (set tops (sheet .machines) top) pairs commands (start + len)
     unfolding withMachine
     scan-machine p =
         record {
@@ -133,8 +129,14 @@ module _ {s : List ℕ} {sheet : Sheet} {lives tops keys slots : List ℕ} {at k
     place-fits = omega (arith, whole-starts s at (t .begins) (t .whole), h .near, h .held .few-machines, h .held .few-moves)
 
     -- by whether an earlier one has its key
-    module _ {key : ℕ} {new : Bool} {keys' slots' : List ℕ} (bytes : (i : ℕ) → byte s i < 256) (key-is : key ≡ keyOf (moveOf body))
-        (a : Added keys (sheet .moves) key new keys' slots') where
+    module _ {new : Bool} {pairs' commands' : List ℕ} (bytes : (i : ℕ) → byte s i < 256)
+        (adds : (keys : List ℕ) → Sent keys pairs commands → length keys < 250 → (byte body 3 ≡ 0 → ⊥)
+        → Added keys (keyOf (moveOf body)) new pairs' commands') where
+      a : Added (map keyOf (d .model .moves)) (keyOf (moveOf body)) new pairs' commands'
+      a =
+          adds (map keyOf (d .model .moves)) (h .keyed .table)
+          (omega (arith, length-map (d .model .moves) keyOf, move .room)) (move .command-given)
+
       last : byte body 3 < 256
       last =
           let same : byte body 3 ≡ byte s (start + 3) =
@@ -146,7 +148,7 @@ module _ {s : List ℕ} {sheet : Sheet} {lives tops keys slots : List ℕ} {at k
       small = passed-small (d .model) body (h .held) (move .right) last
 
       same-before : any (sameMove (moveOf body)) (d .model .moves) ≡ not new
-      same-before = moved-before _ (h .keyed) (h .held .counted .moves-are) _ small key-is a
+      same-before = moved-before _ (h .keyed) _ small a
 
       pub scan-repeated : not new ≡ true → parse s ≡ refused 8 at
       scan-repeated y =
@@ -161,7 +163,7 @@ module _ {s : List ℕ} {sheet : Sheet} {lives tops keys slots : List ℕ} {at k
             modes = sheet .modes;
             live = sheet .live;
             bodies = set (sheet .bodies) (sheet .moves) start;
-          }) lives tops keys' slots' (start + len)
+          }) lives tops pairs' commands' (start + len)
       unfolding withMove
       scan-move n =
           let v = moveOf body in
@@ -171,7 +173,7 @@ module _ {s : List ℕ} {sheet : Sheet} {lives tops keys slots : List ℕ} {at k
             modes-in = h .modes-in;
             bodies-in = fills 250 (d .bodies) start (h .bodies-in) (h .bodies-are) move-room;
             bodies-are = one-longer (d .bodies) start (h .bodies-are);
-            keyed = keyed-more _ (h .keyed) (h .held .counted .moves-are) v small key-is a move-room (not-false new n);
+            keyed = keyed-more _ (h .keyed) v small a (not-false new n);
             near = omega (arith, ends-behind s at d (t .begins) (t .whole) (t .its-body), move .short, h .near);
             leads =
                 leads-on s h _ (omega arith)

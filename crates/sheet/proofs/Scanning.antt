@@ -4,7 +4,7 @@ use Prim.Native.Nat.{ℕ, _+_, _*_, _-_, _≤_, _<_}
 use mathlib.Core.Path.{_≡_, refl, sym, ap, _∙_}
 use mathlib.Core.List.{List}
 use native.Mathlib.Omega.{arith}
-use lib.ListN.{length, take, replicate, length-map}
+use lib.ListN.{length, replicate, length-map}
 use Rattle.common.specs.Lists.{pad}
 use Rattle.common.specs.Reply.{given, refused}
 use Rattle.common.proofs.Pad.{length-pad}
@@ -18,22 +18,22 @@ use Rattle.sheet.specs.Index.{indexOf, readingOf, indexReply, sheetOf}
 use Rattle.sheet.specs.Kept.Held.{topOf, Held}
 use Rattle.sheet.specs.Kept.Sent.{Sent}
 use Rattle.sheet.proofs.Holding.{held-nothing}
-use Rattle.sheet.proofs.Keyed.{Keyed, keyed-nothing, keys-long as array-long, sent-so-far}
+use Rattle.sheet.proofs.Keyed.{Keyed, keyed-nothing}
 use Rattle.sheet.proofs.Turns.{parse-cut, turn-next}
 
 -- some records have been read: the index and the arrays hold them, and what is left of the file decides the reply
-pub record Scanned (s : List ℕ) (sheet : Sheet) (lives tops keys slots : List ℕ) (at : ℕ) : Type 0 where
+pub record Scanned (s : List ℕ) (sheet : Sheet) (lives tops pairs commands : List ℕ) (at : ℕ) : Type 0 where
   pub parsed : Parsed
   pub held : Held (parsed .model) (record { machines = sheet .machines; moves = sheet .moves }) tops lives
   pub modes-in : sheet .modes ≡ pad 32 (parsed .model .modes)
   pub bodies-in : sheet .bodies ≡ pad 250 (parsed .bodies)
   pub bodies-are : length (parsed .bodies) ≡ sheet .moves
-  pub keyed : Keyed (parsed .model .moves) keys slots
+  pub keyed : Keyed (parsed .model .moves) pairs commands
   pub near : at ≤ 6 * sheet .machines + 24 * sheet .moves
   pub leads : parse s ≡ parseFrom (283 - (sheet .machines + sheet .moves)) s at parsed
 
 pub scan-start : (s : List ℕ) {sheet : Sheet} → sheet ≡ indexOf nothing
-    → Scanned s sheet (replicate 32 0) (replicate 256 0) (replicate 250 0) (replicate 512 0) 0
+    → Scanned s sheet (replicate 32 0) (replicate 256 0) (replicate 512 0) (replicate 512 0) 0
 unfolding parse indexOf pad
 scan-start s e =
     rw e (record {
@@ -47,19 +47,17 @@ scan-start s e =
       leads = refl;
     })
 
-module _ (s : List ℕ) {sheet : Sheet} {lives tops keys slots : List ℕ} {at : ℕ}
-    (h : Scanned s sheet lives tops keys slots at) where
+module _ (s : List ℕ) {sheet : Sheet} {lives tops pairs commands : List ℕ} {at : ℕ}
+    (h : Scanned s sheet lives tops pairs commands at) where
   pub tops-long : length tops ≡ 256
   tops-long =
       rw (h .held .tops-in)
       (length-pad 256 _
       (omega (arith, length-map (h .parsed .model .modes) topOf, h .held .counted .machines-are, h .held .few-machines)))
 
-  pub keys-long : length keys ≡ 250
-  keys-long = array-long _ (h .keyed) (h .held .counted .moves-are)
-
-  pub keys-sent : Sent (take (sheet .moves) keys) slots
-  keys-sent = sent-so-far _ (h .keyed) (h .held .counted .moves-are)
+  -- the keys of the moves so far, as a table
+  pub keys-sent : (keys : List ℕ) × Sent keys pairs commands
+  keys-sent = (_, h .keyed .table)
 
   pub lives-long : length lives ≡ 32
   lives-long = rw (h .held .live-in) (length-pad 32 _ (omega (arith, h .held .live-are, h .held .few-machines)))

@@ -1,28 +1,29 @@
--- The table of slots: a search for a key, and one more key.
+-- The table of keys: a search for one, and one more.
 -- Assumes nothing.
-use Prim.Native.Nat.{ℕ, _+_, _-_, _%_, _≤_, _<_}
+use Prim.Native.Nat.{ℕ, _+_, _-_, _*_, _%_, _≤_, _<_}
 use mathlib.Core.Path.{_≡_, refl, sym, ap, subst, _∙_}
-use mathlib.Core.Bool.{true, false}
+use mathlib.Core.Bool.{Bool, true, false}
 use mathlib.Core.List.{List, [], _∷_, _++_, List·Memᴰ·head as head, List·Memᴰ·tail as tail}
+use mathlib.Core.List.{Memᴰ·append-left, Memᴰ·append-right}
 use native.Mathlib.Omega.{arith}
 use borrow.Author.Tests.{eqb-true, eqb-false, ltb-true, ltb-false, lt-ltb, le-ltb, eq-eqb, ne-eqb}
 use lib.Dec.{eqb, ltb}
-use lib.ListN.{length, getD, set, take, replicate, length-set}
-use lib.Seq.{length-take-le, getD-set-same, getD-set-other}
+use lib.ListN.{length, getD, set, replicate, length-set}
+use lib.Seq.{getD-set-same, getD-set-other}
 use Rattle.common.proofs.Bools.{by-cases, true-false}
 use Rattle.common.proofs.Lists.{any-intro, any-fails, covers-length}
-use Rattle.common.proofs.Members.{mem-getD, mem-index}
+use Rattle.common.proofs.Members.{mem-index}
 use Rattle.common.proofs.Pad.{getD-zeros}
 use Rattle.common.proofs.Snoc.{length-snoc, snoc-each}
-use Rattle.sheet.specs.Kept.Sent.{slotOf, behind, Reached, Stands, Sent, Sought, Added}
+use Rattle.sheet.specs.Kept.Sent.{slotOf, behind, keyAt, Reached, Stands, Sent, Sought, Added}
 
 -- a search has come to a slot: it has passed by taken ones, none of which holds the key
-pub record Seeking (keys slots : List ℕ) (key at : ℕ) : Type 0 where
+pub record Seeking (pairs commands : List ℕ) (key at : ℕ) : Type 0 where
   pub far : ℕ
   pub near : far < 512
   pub place : at ≡ behind (slotOf key) far
-  pub taken : (e : ℕ) → e < far → 0 < getD slots (behind (slotOf key) e) 0
-  pub passed : (e : ℕ) → e < far → getD keys (getD slots (behind (slotOf key) e) 0 - 1) 0 ≡ key → ⊥
+  pub taken : (e : ℕ) → e < far → 0 < getD commands (behind (slotOf key) e) 0
+  pub passed : (e : ℕ) → e < far → keyAt pairs commands (behind (slotOf key) e) ≡ key → ⊥
 
 -- how many slots are left for it
 unfoldable pub slotsLeft : ℕ → ℕ → ℕ
@@ -32,9 +33,9 @@ pub own-slot : (key : ℕ) → slotOf key < 512
 unfolding slotOf
 own-slot key = omega arith
 
-pub seek-first : (keys slots : List ℕ) (key : ℕ) {at : ℕ} → at ≡ slotOf key → Seeking keys slots key at
+pub seek-first : (pairs commands : List ℕ) (key : ℕ) {at : ℕ} → at ≡ slotOf key → Seeking pairs commands key at
 unfolding behind
-seek-first keys slots key e =
+seek-first pairs commands key e =
     record {
       far = 0;
       near = omega arith;
@@ -43,17 +44,17 @@ seek-first keys slots key e =
       passed = λ i l. let no : ⊥ = omega arith in absurd no;
     }
 
-module _ (keys slots : List ℕ) (h : Sent keys slots) (key : ℕ) {at : ℕ} (s : Seeking keys slots key at) where
-  pub seek-inside : at < 512
-  unfolding behind
-  seek-inside = omega (arith, s .place)
+pub seek-inside : {pairs commands : List ℕ} {key at : ℕ} → Seeking pairs commands key at → at < 512
+unfolding behind
+seek-inside s = omega (arith, s .place)
 
-  -- a slot that is taken holds the number of a move
-  pub held-key : 0 < getD slots at 0 → getD slots at 0 - 1 < length keys
-  held-key t = omega (arith, h .within at)
+module _ {keys pairs commands : List ℕ} (h : Sent keys pairs commands) (key : ℕ) {at : ℕ}
+    (s : Seeking pairs commands key at) where
+  reached : Reached commands key at
+  reached = record { far = s .far; place = s .place; taken = s .taken }
 
-  module _ (t : 0 < getD slots at 0) where
-    taken-too : (e : ℕ) → e ≤ s .far → 0 < getD slots (behind (slotOf key) e) 0
+  module _ (t : 0 < getD commands at 0) where
+    taken-too : (e : ℕ) → e ≤ s .far → 0 < getD commands (behind (slotOf key) e) 0
     taken-too e l =
         by-cases (ltb e (s .far)) (λ y. s .taken e (ltb-true _ _ y)) (λ n.
         let same : e ≡ s .far = omega (arith, ltb-false e (s .far) n) in
@@ -68,7 +69,7 @@ module _ (keys slots : List ℕ) (h : Sent keys slots) (key : ℕ) {at : ℕ} (s
         let all = covers-length 512 (h .places) (λ k l.
         let far : ℕ = (k + 512 - slotOf key) % 512 in
         let there : behind (slotOf key) far ≡ k = omega (arith, own-slot key) in
-        h .listed k (subst (λ x. 0 < getD slots x 0) there (taken-too far (omega arith)))) in
+        h .listed k (subst (λ x. 0 < getD commands x 0) there (taken-too far (omega arith)))) in
         let no : ⊥ = omega (arith, all, h .one-each, h .few) in absurd no)
 
     module _ {next : ℕ} (n : next ≡ (at + 1) % 512) where
@@ -76,7 +77,7 @@ module _ (keys slots : List ℕ) (h : Sent keys slots) (key : ℕ) {at : ℕ} (s
       unfolding slotsLeft behind
       seek-less = omega (arith, s .place, not-last, own-slot key)
 
-      pub seek-next : (getD keys (getD slots at 0 - 1) 0 ≡ key → ⊥) → Seeking keys slots key next
+      pub seek-next : (keyAt pairs commands at ≡ key → ⊥) → Seeking pairs commands key next
       unfolding behind
       seek-next other =
           record {
@@ -91,58 +92,55 @@ module _ (keys slots : List ℕ) (h : Sent keys slots) (key : ℕ) {at : ℕ} (s
           }
 
     -- the key is found
-    pub seek-found : getD keys (getD slots at 0 - 1) 0 ≡ key → Sought keys slots key at
+    pub seek-found : keyAt pairs commands at ≡ key → Sought keys commands key at
     seek-found e =
         record {
-          inside = seek-inside;
-          reached = record { far = s .far; place = s .place; taken = s .taken };
+          inside = seek-inside s;
+          reached = reached;
           tells =
-              any-intro (eqb key) (mem-getD keys (getD slots at 0 - 1) 0 (held-key t)) (eq-eqb key _ (sym e))
-              ∙ sym (lt-ltb 0 (getD slots at 0) t);
+              any-intro (eqb key) (h .held at t) (eq-eqb key _ (sym e)) ∙ sym (lt-ltb 0 (getD commands at 0) t);
         }
 
   -- a slot is free, so the key is not there
-  module _ (f : getD slots at 0 ≡ 0) where
+  module _ (f : getD commands at 0 ≡ 0) where
     not-there : (j : ℕ) → j < length keys → getD keys j 0 ≡ key → ⊥
     not-there j l e =
-        let p : Stands slots key (j + 1) = subst (λ x. Stands slots x (j + 1)) e (h .stands j l) in
+        let p : Stands pairs commands key = subst (Stands pairs commands) e (h .stands j l) in
         let r = p .reached in
         by-cases (ltb (r .far) (s .far))
-        (λ y.
-        let here : getD slots (behind (slotOf key) (r .far)) 0 ≡ j + 1 = rw (← r .place) (p .there) in
-        let back : getD slots (behind (slotOf key) (r .far)) 0 - 1 ≡ j = omega arith in
-        s .passed (r .far) (ltb-true _ _ y) (rw back e))
+        (λ y. s .passed (r .far) (ltb-true _ _ y) (rw (← r .place) (p .there)))
         (λ n.
         by-cases (ltb (s .far) (r .far))
         (λ y.
         let t = r .taken (s .far) (ltb-true _ _ y) in
-        let free : getD slots (behind (slotOf key) (s .far)) 0 ≡ 0 = rw (← s .place) f in
+        let free : getD commands (behind (slotOf key) (s .far)) 0 ≡ 0 = rw (← s .place) f in
         omega arith)
         (λ k.
         let same : r .far ≡ s .far = omega (arith, ltb-false (r .far) (s .far) n, ltb-false (s .far) (r .far) k) in
         let one : p .slot ≡ at = r .place ∙ ap (behind (slotOf key)) same ∙ sym (s .place) in
-        let held : getD slots at 0 ≡ j + 1 = rw (← one) (p .there) in
+        let t : 0 < getD commands at 0 = rw (← one) (p .taken) in
         omega arith))
 
-    pub seek-free : Sought keys slots key at
+    pub seek-free : Sought keys commands key at
     seek-free =
         record {
-          inside = seek-inside;
-          reached = record { far = s .far; place = s .place; taken = s .taken };
+          inside = seek-inside s;
+          reached = reached;
           tells =
               any-fails (eqb key) keys (λ x m.
               let i = mem-index 0 m in
               ne-eqb key x (λ e. not-there (i .0) (i .1) (i .2 ∙ sym e)))
-              ∙ sym (le-ltb 0 (getD slots at 0) (omega arith));
+              ∙ sym (le-ltb 0 (getD commands at 0) (omega arith));
         }
 
 -- no key yet
-pub sent-nothing : Sent [] (replicate 512 0)
+pub sent-nothing : Sent [] (replicate 512 0) (replicate 512 0)
 sent-nothing =
     record {
       few = omega arith;
-      slots-long = refl;
-      within = λ k. omega (arith, getD-zeros 512 k);
+      pairs-long = refl;
+      commands-long = refl;
+      held = λ k t. let no : ⊥ = omega (arith, getD-zeros 512 k) in absurd no;
       stands = λ j l. let no : ⊥ = omega arith in absurd no;
       places = [];
       one-each = refl;
@@ -150,44 +148,70 @@ sent-nothing =
     }
 
 -- one more key, in a free slot
-module _ (keys slots : List ℕ) (h : Sent keys slots) (key : ℕ) {at : ℕ} (s : Sought keys slots key at)
-    (free : getD slots at 0 ≡ 0) (room : length keys < 250) where
-  abbrev after : List ℕ
-  after = set slots at (length keys + 1)
+module _ {keys pairs commands : List ℕ} (h : Sent keys pairs commands) (pair command : ℕ) {at : ℕ}
+    (s : Sought keys commands (256 * pair + command) at) (free : getD commands at 0 ≡ 0) (given : 0 < command)
+    (room : length keys < 250) where
+  abbrev key : ℕ
+  key = 256 * pair + command
 
-  other-stays : (k : ℕ) → (k ≡ at → ⊥) → getD after k 0 ≡ getD slots k 0
-  other-stays k o = getD-set-other slots at k (length keys + 1) 0 o
+  abbrev pairs' : List ℕ
+  pairs' = set pairs at pair
 
-  new-there : getD after at 0 ≡ length keys + 1
-  new-there = getD-set-same slots at (length keys + 1) 0 (omega (arith, s .inside, h .slots-long))
+  abbrev commands' : List ℕ
+  commands' = set commands at command
 
-  taken-stays : (k : ℕ) → 0 < getD slots k 0 → getD after k 0 ≡ getD slots k 0
-  taken-stays k t =
-      other-stays k (λ e.
-      let z : getD slots k 0 ≡ 0 = rw e free in
-      let no : ⊥ = omega arith in no)
+  other-stays : (k : ℕ) → (k ≡ at → ⊥) → getD commands' k 0 ≡ getD commands k 0
+  other-stays k o = getD-set-other commands at k command 0 o
 
-  reached-stays : {k slot : ℕ} → Reached slots k slot → Reached after k slot
+  other-key : (k : ℕ) → (k ≡ at → ⊥) → keyAt pairs' commands' k ≡ keyAt pairs commands k
+  unfolding keyAt
+  other-key k o = rw (other-stays k o, getD-set-other pairs at k pair 0 o)
+
+  new-command : getD commands' at 0 ≡ command
+  new-command = getD-set-same commands at command 0 (omega (arith, s .inside, h .commands-long))
+
+  new-key : keyAt pairs' commands' at ≡ key
+  unfolding keyAt
+  new-key = rw (new-command, getD-set-same pairs at pair 0 (omega (arith, s .inside, h .pairs-long)))
+
+  not-free : (k : ℕ) → 0 < getD commands k 0 → k ≡ at → ⊥
+  not-free k t e =
+      let z : getD commands k 0 ≡ 0 = rw e free in
+      omega arith
+
+  reached-stays : {k slot : ℕ} → Reached commands k slot → Reached commands' k slot
   reached-stays r =
-      record { far = r .far; place = r .place; taken = λ e l. rw (taken-stays _ (r .taken e l)) (r .taken e l) }
+      record {
+        far = r .far;
+        place = r .place;
+        taken = λ e l. rw (other-stays _ (not-free _ (r .taken e l))) (r .taken e l);
+      }
 
-  stands-stays : {k n : ℕ} → 0 < n → Stands slots k n → Stands after k n
-  stands-stays {k} {n} z p =
-      let t : 0 < getD slots (p .slot) 0 = rw (p .there) z in
-      record { slot = p .slot; reached = reached-stays (p .reached); there = taken-stays (p .slot) t ∙ p .there }
+  stands-stays : {k : ℕ} → Stands pairs commands k → Stands pairs' commands' k
+  stands-stays p =
+      let o = not-free (p .slot) (p .taken) in
+      record {
+        slot = p .slot;
+        reached = reached-stays (p .reached);
+        taken = rw (other-stays (p .slot) o) (p .taken);
+        there = other-key (p .slot) o ∙ p .there;
+      }
 
-  pub sent-more : Sent (keys ++ (key ∷ [])) after
+  pub sent-more : Sent (keys ++ (key ∷ [])) pairs' commands'
   sent-more =
       record {
         few = omega (arith, length-snoc keys key);
-        slots-long = length-set slots at (length keys + 1) ∙ h .slots-long;
-        within = λ k.
+        pairs-long = length-set pairs at pair ∙ h .pairs-long;
+        commands-long = length-set commands at command ∙ h .commands-long;
+        held = λ k t.
             by-cases (eqb k at)
-            (λ t. rw (eqb-true k at t, new-there) (omega (arith, length-snoc keys key)))
-            (λ f. rw (other-stays k (eqb-false k at f)) (omega (arith, h .within k, length-snoc keys key)));
+            (λ y. rw (eqb-true k at y, new-key) (Memᴰ·append-right keys (head refl)))
+            (λ n.
+            let o = eqb-false k at n in
+            rw (other-key k o) (Memᴰ·append-left (key ∷ []) (h .held k (rw (other-stays k o) at t))));
         stands =
-            snoc-each keys key 0 (λ j x. Stands after x (j + 1)) (λ j l. stands-stays (omega arith) (h .stands j l))
-            (record { slot = at; reached = reached-stays (s .reached); there = new-there });
+            snoc-each keys key 0 (λ j x. Stands pairs' commands' x) (λ j l. stands-stays (h .stands j l))
+            (record { slot = at; reached = reached-stays (s .reached); taken = rw new-command given; there = new-key });
         places = at ∷ h .places;
         one-each = omega (arith, h .one-each, length-snoc keys key);
         listed = λ k t.
@@ -196,18 +220,39 @@ module _ (keys slots : List ℕ) (h : Sent keys slots) (key : ℕ) {at : ℕ} (s
       }
 
 -- what adding a key answers, by the slot where the search for it ends
-module _ (keys slots : List ℕ) {n key at : ℕ} (s : Sought (take n keys) slots key at) where
-  pub added-not : (slots' : List ℕ) → 0 < getD slots at 0 → Added keys n key false keys slots'
-  added-not slots' t =
-      record { earlier = s .tells ∙ lt-ltb 0 (getD slots at 0) t; keys-are = refl; sent = λ y. absurd (true-false y refl) }
+pub added-not : {keys commands : List ℕ} {k key at : ℕ} (pairs' commands' : List ℕ) → k ≡ key
+    → Sought keys commands k at → 0 < getD commands at 0 → Added keys key false pairs' commands'
+added-not {commands = commands} {at = at} pairs' commands' e s t =
+    record { earlier = rw (← e) (s .tells ∙ lt-ltb 0 (getD commands at 0) t); sent = λ y. absurd (true-false y refl) }
 
-  pub added-new : Sent (take n keys) slots → n < 250 → length keys ≡ 250 → getD slots at 0 ≡ 0
-      → Added keys n key true (set keys n key) (set slots at (n + 1))
-  added-new h room long free =
-      let count : length (take n keys) ≡ n = length-take-le n keys (omega arith) in
-      record {
-        earlier = s .tells ∙ le-ltb 0 (getD slots at 0) (omega arith);
-        keys-are = refl;
-        sent = λ y. subst (λ k. Sent (take n keys ++ (key ∷ [])) (set slots at (k + 1))) count
-            (sent-more (take n keys) slots h key s free (omega arith));
-      }
+pub added-new : {keys pairs commands : List ℕ} (pair command : ℕ) {key at : ℕ} → 256 * pair + command ≡ key
+    → Sent keys pairs commands → Sought keys commands (256 * pair + command) at → getD commands at 0 ≡ 0 → 0 < command
+    → length keys < 250 → Added keys key true (set pairs at pair) (set commands at command)
+added-new {commands = commands} pair command {at = at} e h s free given room =
+    record {
+      earlier = rw (← e) (s .tells ∙ le-ltb 0 (getD commands at 0) (omega arith));
+      sent = λ y. rw (← e) (sent-more h pair command s free given room);
+    }
+
+-- a slot holds a key where both bytes are the same
+module _ (pairs commands : List ℕ) (at pair command : ℕ) (small : getD commands at 0 < 256) (byte : command < 256) where
+  pub other-command : (getD commands at 0 ≡ command → ⊥) → false ≡ eqb (keyAt pairs commands at) (256 * pair + command)
+  unfolding keyAt
+  other-command o =
+      sym (ne-eqb (keyAt pairs commands at) (256 * pair + command) (λ e.
+      let f : 256 * getD pairs at 0 + getD commands at 0 ≡ 256 * pair + command = e in
+      o (omega arith)))
+
+  pub same-command : {b : Bool} → getD commands at 0 ≡ command → b ≡ eqb (getD pairs at 0) pair
+      → b ≡ eqb (keyAt pairs commands at) (256 * pair + command)
+  unfolding keyAt
+  same-command c e =
+      e
+      ∙ by-cases (eqb (getD pairs at 0) pair)
+      (λ y.
+      let f : 256 * getD pairs at 0 + getD commands at 0 ≡ 256 * pair + command =
+      omega (arith, eqb-true (getD pairs at 0) pair y) in
+      y ∙ sym (eq-eqb (keyAt pairs commands at) _ f))
+      (λ n. n ∙ sym (ne-eqb (keyAt pairs commands at) (256 * pair + command) (λ q.
+      let f : 256 * getD pairs at 0 + getD commands at 0 ≡ 256 * pair + command = q in
+      eqb-false (getD pairs at 0) pair n (omega arith))))

@@ -49,14 +49,15 @@ pub record MoveFits (m : Model) (body : List ℕ) : Type 0 where
   pub short : length body ≤ 20
   pub room : moveCount m < 250
   pub right : badMove (m .modes) (m .live) (moveOf body) ≡ false
+  pub command-given : byte body 3 ≡ 0 → ⊥
 
 own-fits : (m : Model) (at : ℕ) (body : List ℕ) → Clear (ownMoveFaults m at body) → MoveFits m body
-unfolding ownMoveFaults wrongMoveLength
+unfolding ownMoveFaults wrongMoveLength moveOf
 own-fits m at body c =
     let a : ltb (length body) 4 ≡ false = search parts in
     let b : ltb 20 (length body) ≡ false = search parts in
     let e : leb 250 (moveCount m) ≡ false = search parts in
-    record { long = ltb-false _ _ a; short = ltb-false _ _ b; room = leb-false _ _ e; right = c .1 .1 .0 }
+    record { long = ltb-false _ _ a; short = ltb-false _ _ b; room = leb-false _ _ e; right = c .1 .1 .0; command-given = eqb-false (byte body 3) 0 (c .1 .1 .1 .1 .0) }
 
 -- the record at a place
 module _ (s : List ℕ) (at : ℕ) (d : Parsed) {r : Record} {kind start len : ℕ} {body : List ℕ}

@@ -9,7 +9,6 @@ use crate::record::Record;
 use crate::refusal::Cause;
 use crate::refusal::Verdict;
 use crate::sent::added;
-use crate::sent::key_of;
 ghost use mathlib.Core.Path.{_≡_};
 ghost use Rattle.common.specs.Reply.{refused};
 ghost use Rattle.sheet.specs.Refusal.{numberOf};
@@ -35,9 +34,9 @@ pub fn read(s: &[u8]) -> Reading
     let mut lives = [0u8; Sheet::MACHINES];
     // All modes of a machine as bits; none for a byte that names no machine.
     let mut tops = [0u8; 256];
-    // The moves so far, by their commands.
-    let mut keys = [0u16; Sheet::MOVES];
-    let mut slots = [0u8; 512];
+    // The keys of the moves so far.
+    let mut pairs = [0u8; 512];
+    let mut commands = [0u8; 512];
     let mut at: usize = 0;
     // Ends, since a machine or a move too many is faulty.
     loop {
@@ -62,7 +61,7 @@ pub fn read(s: &[u8]) -> Reading
                 at = end;
             }
             2 => {
-                if !added(&mut keys[..], &mut slots[..], moves, key_of(body)) {
+                if !added(&mut pairs[..], &mut commands[..], body) {
                     return refusal(Cause::BadCommand, at);
                 }
                 sheet.bodies[moves] = start as u16;

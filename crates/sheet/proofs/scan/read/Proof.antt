@@ -3,7 +3,7 @@ use borrow.Author.Needs.{needs}
 use mathlib.Core.Path.{sym}
 use native.Mathlib.Omega.{arith}
 use Rattle.sheet.proofs.Records.{whole-within}
-use Rattle.sheet.proofs.Scanning.{Scanned, scan-start, lives-long, tops-long, keys-long, keys-sent, index-is, scan-cut}
+use Rattle.sheet.proofs.Scanning.{Scanned, scan-start, lives-long, tops-long, keys-sent, index-is, scan-cut}
 use Rattle.sheet.proofs.Scanning.{reading-accepted, reading-refused}
 use Rattle.sheet.proofs.ScanTurns.{turned, scan-faulty}
 use Rattle.sheet.proofs.ScanTurns.{machine-bytes, machine-room, machine-few, machine-less, scan-machine}
@@ -13,10 +13,10 @@ use Rattle.sheet.proofs.scan.read.Statement.{statement}
 use Rattle.sheet.proofs.scan.read.Tie as tie
 
 abbrev Inv-loop : tie.InvT-loop
-Inv-loop s sheet₀ lives₀ tops₀ keys₀ slots₀ at₀ sheet lives tops keys slots at = Scanned s sheet lives tops keys slots at
+Inv-loop s sheet₀ lives₀ tops₀ pairs₀ commands₀ at₀ sheet lives tops pairs commands at = Scanned s sheet lives tops pairs commands at
 
 abbrev μ-loop : tie.MeasureT-loop
-μ-loop s sheet₀ lives₀ tops₀ keys₀ slots₀ at₀ sheet lives tops keys slots at = 283 - (sheet .machines + sheet .moves)
+μ-loop s sheet₀ lives₀ tops₀ pairs₀ commands₀ at₀ sheet lives tops pairs commands at = 283 - (sheet .machines + sheet .moves)
 
 empty-requires : tie.Need-empty-requires Inv-loop μ-loop
 empty-requires c κs = search needs
@@ -136,68 +136,62 @@ loop-again c =
     scan-machine t (c .before .before .before .before .before .enum-told2 .given .1) (c .before .before .before .before .match3 .keys1) (c .first-modes .ensures)
 
 slice-aggregate-added : tie.Need-slice-aggregate-added Inv-loop μ-loop
-slice-aggregate-added c = sym (keys-long _ (c .before .before .before .before .before .before .before .before .before .before .before .before .loop .inv))
+slice-aggregate-added c = sym (c .before .before .before .before .before .before .before .before .before .before .before .before .loop .inv .keyed .table .pairs-long)
 
 slice-aggregate-added-2 : tie.Need-slice-aggregate-added-2 Inv-loop μ-loop
-slice-aggregate-added-2 c = sym (c .before .before .before .before .before .before .before .before .before .before .before .before .before .loop .inv .keyed .table .slots-long)
-
-key-of-requires : tie.Need-key-of-requires Inv-loop μ-loop
-key-of-requires c κs =
-    let turn = c .before .before .before .before .before in
-    let t = turned _ (turn .before .before .before .before .before .before .before .before .loop .inv) (turn .before .before .before .before .before .before .before .record-at .ensures) (turn .before .before .before .before .before .kind .given .1) (turn .judge .ensures) in
-    move-bytes t (c .before .before .before .enum-told2 .given .1) (c .before .before .match3 .keys2)
+slice-aggregate-added-2 c = sym (c .before .before .before .before .before .before .before .before .before .before .before .before .before .loop .inv .keyed .table .commands-long)
 
 added-requires : tie.Need-added-requires Inv-loop μ-loop
 added-requires c κs =
-    let turn = c .before .before .before .before .before .before in
+    let turn = c .before .before .before .before .before in
     let t = turned _ (turn .before .before .before .before .before .before .before .before .loop .inv) (turn .before .before .before .before .before .before .before .record-at .ensures) (turn .before .before .before .before .before .kind .given .1) (turn .judge .ensures) in
-    (keys-sent _ (t .scanned), keys-long _ (t .scanned), move-room t (c .before .before .before .before .enum-told2 .given .1) (c .before .before .before .match3 .keys2))
+    (keys-sent _ (t .scanned), move-bytes t (c .before .before .before .enum-told2 .given .1) (c .before .before .match3 .keys2))
 
 refusal-requires-3 : tie.Need-refusal-requires-3 Inv-loop μ-loop
 refusal-requires-3 c κs = search needs
 
 returns-3 : tie.Need-returns-3 Inv-loop μ-loop
 returns-3 c =
-    let turn = c .before .before .before .before .before .before .before .before .before .before .before in
+    let turn = c .before .before .before .before .before .before .before .before .before .before in
     let t = turned _ (turn .before .before .before .before .before .before .before .before .loop .inv) (turn .before .before .before .before .before .before .before .record-at .ensures) (turn .before .before .before .before .before .kind .given .1) (turn .judge .ensures) in
     reading-refused _ (c .refusal3 .result) (c .refusal3 .ensures)
-    (scan-repeated t (c .before .before .before .before .before .before .before .before .before .enum-told2 .given .1) (c .before .before .before .before .before .before .before .before .match3 .keys2) (λ i. omega (arith, c .before .before .before .before .before .before .before .before .before .before .before .before .before .before .before .before .before .before .before .before .before .shared-slice-known .given i)) (c .before .before .before .before .before .key-of .ensures) (c .before .before .before .before .added .ensures) (c .before .if1 .taken))
+    (scan-repeated t (c .before .before .before .before .before .before .before .before .enum-told2 .given .1) (c .before .before .before .before .before .before .before .match3 .keys2) (λ i. omega (arith, c .before .before .before .before .before .before .before .before .before .before .before .before .before .before .before .before .before .before .before .before .shared-slice-known .given i)) (c .before .before .before .before .added .ensures) (c .before .if1 .taken))
 
 cast-sheet : tie.Need-cast-sheet Inv-loop μ-loop
 cast-sheet c =
-    let turn = c .before .before .before .before .before .before .before .before .before .before in
+    let turn = c .before .before .before .before .before .before .before .before .before in
     let t = turned _ (turn .before .before .before .before .before .before .before .before .loop .inv) (turn .before .before .before .before .before .before .before .record-at .ensures) (turn .before .before .before .before .before .kind .given .1) (turn .judge .ensures) in
-    place-fits t (c .before .before .before .before .before .before .before .before .enum-told2 .given .1) (c .before .before .before .before .before .before .before .match3 .keys2)
+    place-fits t (c .before .before .before .before .before .before .before .enum-told2 .given .1) (c .before .before .before .before .before .before .match3 .keys2)
 
 mul-sheet : tie.Need-mul-sheet Inv-loop μ-loop
 mul-sheet c =
-    let turn = c .before .before .before .before .before .before .before .before .before .before in
+    let turn = c .before .before .before .before .before .before .before .before .before in
     let t = turned _ (turn .before .before .before .before .before .before .before .before .loop .inv) (turn .before .before .before .before .before .before .before .record-at .ensures) (turn .before .before .before .before .before .kind .given .1) (turn .judge .ensures) in
-    omega (arith, move-room t (c .before .before .before .before .before .before .before .before .enum-told2 .given .1) (c .before .before .before .before .before .before .before .match3 .keys2))
+    omega (arith, move-room t (c .before .before .before .before .before .before .before .enum-told2 .given .1) (c .before .before .before .before .before .before .match3 .keys2))
 
 element-write-sheet-2 : tie.Need-element-write-sheet-2 Inv-loop μ-loop
 element-write-sheet-2 c =
-    let turn = c .before .before .before .before .before .before .before .before .before .before in
+    let turn = c .before .before .before .before .before .before .before .before .before in
     let t = turned _ (turn .before .before .before .before .before .before .before .before .loop .inv) (turn .before .before .before .before .before .before .before .record-at .ensures) (turn .before .before .before .before .before .kind .given .1) (turn .judge .ensures) in
-    move-room t (c .before .before .before .before .before .before .before .before .enum-told2 .given .1) (c .before .before .before .before .before .before .before .match3 .keys2)
+    move-room t (c .before .before .before .before .before .before .before .enum-told2 .given .1) (c .before .before .before .before .before .before .match3 .keys2)
 
 add-sheet-2 : tie.Need-add-sheet-2 Inv-loop μ-loop
 add-sheet-2 c =
-    let turn = c .before .before .before .before .before .before .before .before .before .before in
+    let turn = c .before .before .before .before .before .before .before .before .before in
     let t = turned _ (turn .before .before .before .before .before .before .before .before .loop .inv) (turn .before .before .before .before .before .before .before .record-at .ensures) (turn .before .before .before .before .before .kind .given .1) (turn .judge .ensures) in
-    omega (arith, move-room t (c .before .before .before .before .before .before .before .before .enum-told2 .given .1) (c .before .before .before .before .before .before .before .match3 .keys2))
+    omega (arith, move-room t (c .before .before .before .before .before .before .before .enum-told2 .given .1) (c .before .before .before .before .before .before .match3 .keys2))
 
 loop-less-2 : tie.Need-loop-less-2 Inv-loop μ-loop
 loop-less-2 c =
-    let turn = c .before .before .before .before .before .before .before .before .before .before in
+    let turn = c .before .before .before .before .before .before .before .before .before in
     let t = turned _ (turn .before .before .before .before .before .before .before .before .loop .inv) (turn .before .before .before .before .before .before .before .record-at .ensures) (turn .before .before .before .before .before .kind .given .1) (turn .judge .ensures) in
-    move-less t (c .before .before .before .before .before .before .before .before .enum-told2 .given .1) (c .before .before .before .before .before .before .before .match3 .keys2)
+    move-less t (c .before .before .before .before .before .before .before .enum-told2 .given .1) (c .before .before .before .before .before .before .match3 .keys2)
 
 loop-again-2 : tie.Need-loop-again-2 Inv-loop μ-loop
 loop-again-2 c =
-    let turn = c .before .before .before .before .before .before .before .before .before .before in
+    let turn = c .before .before .before .before .before .before .before .before .before in
     let t = turned _ (turn .before .before .before .before .before .before .before .before .loop .inv) (turn .before .before .before .before .before .before .before .record-at .ensures) (turn .before .before .before .before .before .kind .given .1) (turn .judge .ensures) in
-    scan-move t (c .before .before .before .before .before .before .before .before .enum-told2 .given .1) (c .before .before .before .before .before .before .before .match3 .keys2) (λ i. omega (arith, c .before .before .before .before .before .before .before .before .before .before .before .before .before .before .before .before .before .before .before .before .shared-slice-known .given i)) (c .before .before .before .before .key-of .ensures) (c .before .before .before .added .ensures) (c .if1 .left)
+    scan-move t (c .before .before .before .before .before .before .before .enum-told2 .given .1) (c .before .before .before .before .before .before .match3 .keys2) (λ i. omega (arith, c .before .before .before .before .before .before .before .before .before .before .before .before .before .before .before .before .before .before .before .shared-slice-known .given i)) (c .before .before .before .added .ensures) (c .if1 .left)
 
 refusal-requires-4 : tie.Need-refusal-requires-4 Inv-loop μ-loop
 refusal-requires-4 c κs = search needs
@@ -250,7 +244,6 @@ read-spec =
     loop-again
     slice-aggregate-added
     slice-aggregate-added-2
-    key-of-requires
     added-requires
     refusal-requires-3
     returns-3
