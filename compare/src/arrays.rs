@@ -169,10 +169,17 @@ fn constant(path: &str, constants: &Constants) -> Option<usize> {
     known.all(|other| other.1 == Some(number)).then_some(number)
 }
 
-/// How long an array is.
+/// How long an array is: a sum of products of numbers and constants.
 fn length(tokens: &[Token], constants: &Constants) -> Option<usize> {
-    let text: String = tokens.iter().map(|token| token.text).collect();
-    whole(&text).or_else(|| constant(&text, constants))
+    let factor = |tokens: &[Token]| {
+        let text: String = tokens.iter().map(|token| token.text).collect();
+        whole(&text).or_else(|| constant(&text, constants))
+    };
+    let product = |tokens| {
+        let factors = parts(tokens, "*").into_iter().map(factor);
+        factors.product::<Option<usize>>()
+    };
+    parts(tokens, "+").into_iter().map(product).sum()
 }
 
 /// The bytes of an element: a type, a value that ends with its type, or an array.

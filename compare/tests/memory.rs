@@ -123,7 +123,7 @@ fn seen(text: &str) -> Vec<Option<usize>> {
 
 #[test]
 fn an_array_that_can_be_read_is_seen() {
-    let texts: [(&str, &[usize]); 18] = [
+    let texts: [(&str, &[usize]); 19] = [
         ("let a = [0u8; 513];", &[513]),
         ("fn f(a: &[u64; 65]) -> [u32; 33]", &[520, 132]),
         ("f([0u16; 257])", &[514]),
@@ -134,6 +134,7 @@ fn an_array_that_can_be_read_is_seen() {
         ("[u16; sheet::index::Sheet::MOVES]", &[500]),
         ("[u16; crate::state::LENGTH]", &[130]),
         ("[u16; Group::MOVES]", &[16]),
+        ("[u8; 2 * Sheet::MOVES + 13] [u8; 2 + 3 * 4]", &[513, 14]),
         ("[[u8; 64]; 9]", &[576, 64]),
         (
             "let a = [\n    [0u8; 64],\n    [0u8; 64],\n];",
@@ -186,7 +187,9 @@ fn what_cannot_be_read_is_seen() {
         "[u8; Sheet::LENGTH]",
         "[u8; Sheet::MORE]",
         "[u8; TWICE]",
-        "[u8; 2 * 3]",
+        "[u8; 2 - 1]",
+        "[u8; 2 * n]",
+        "[u8; 2 +]",
         "[u8; 2; 3]",
         // Nothing closes them.
         "[u8; 2",

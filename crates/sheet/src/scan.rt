@@ -8,6 +8,7 @@ use crate::judge::judge;
 use crate::record::Record;
 use crate::refusal::Cause;
 use crate::refusal::Verdict;
+use crate::sent::SLOTS;
 use crate::sent::added;
 ghost use mathlib.Core.Path.{_≡_};
 ghost use Rattle.common.specs.Reply.{refused};
@@ -35,8 +36,8 @@ pub fn read(s: &[u8]) -> Reading
     // All modes of a machine as bits; none for a byte that names no machine.
     let mut tops = [0u8; 256];
     // The keys of the moves so far.
-    let mut pairs = [0u8; 512];
-    let mut commands = [0u8; 512];
+    let mut pairs = [0u8; SLOTS];
+    let mut commands = [0u8; SLOTS];
     let mut at: usize = 0;
     // Ends, since a machine or a move too many is faulty.
     loop {

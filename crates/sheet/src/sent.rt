@@ -10,6 +10,9 @@ ghost use Rattle.sheet.specs.Record.{byte};
 ghost use Rattle.sheet.specs.Model.{moveOf};
 ghost use Rattle.sheet.specs.Kept.Sent.{keyOf, slotOf, keyAt, Sent, Sought, Added};
 
+// Slots of the table.
+pub const SLOTS: usize = 512;
+
 // A move's machine and from mode, the upper byte of its key.
 fn pair_of(body: &[u8]) -> u8
     requires { ⌜ 4 ≤ length (now body) ⌝ }
@@ -22,7 +25,7 @@ fn pair_of(body: &[u8]) -> u8
 fn slot_of(pair: u8, command: u8) -> usize
     ensures { λ r. ⌜ (r ≡ slotOf (256 * pair + command)) × (r < 512) ⌝ }
 {
-    (256 * wide(pair) + wide(command)) * 2654435761 / 8388608 % 512
+    (256 * wide(pair) + wide(command)) * 2654435761 / 8388608 % SLOTS
 }
 
 // Whether a slot holds a key.
@@ -47,12 +50,12 @@ fn find(pairs: &[u8], commands: &[u8], pair: u8, command: u8) -> usize
         if holds(pairs, commands, at, pair, command) {
             return at;
         }
-        at = (at + 1) % 512;
+        at = (at + 1) % SLOTS;
     }
     at
 }
 
-// Adds the key of a move with a command, unless an earlier move has it.
+// Adds the key of a move with a command; false, and nothing is added, if an earlier move has it.
 pub fn added(pairs: &mut [u8], commands: &mut [u8], body: &[u8]) -> bool
     requires { ⌜ ((keys : List ℕ) × Sent keys (now pairs) (now commands)) × (4 ≤ length (now body)) ⌝ }
     ensures { λ r. ⌜ ((keys : List ℕ) → Sent keys (now (pairs .entry)) (now (commands .entry)) → length keys < 250
