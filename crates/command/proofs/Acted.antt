@@ -21,7 +21,7 @@ use Rattle.sheet.specs.Record.{byte, bodyAt}
 use Rattle.sheet.specs.Model.{Model, moveAt, moveOf}
 use Rattle.sheet.specs.Kept.Indexed.{Indexes}
 use Rattle.sheet.proofs.Indexed.{indexes-valid, indexes-moves, indexes-body}
-use Rattle.plan.specs.Answers.{verdictSays}
+use Rattle.plan.specs.Says.{verdictSays}
 use Rattle.plan.proofs.MoveTurns.{turn-present, turn-move}
 use Rattle.command.specs.State.{withMode, stateFaults}
 use Rattle.command.specs.Apply.{Answers, Applied, Effect, actingMove, stateBy, appliedBy, effectReply, applyReply, stateAfter}

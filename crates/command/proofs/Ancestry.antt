@@ -11,7 +11,7 @@ use Rattle.sheet.specs.Valid.{Valid}
 use Rattle.plan.specs.Groups.{Grouping, groupCount, namedOutside}
 use Rattle.plan.specs.Meaning.{NamesOutside}
 use Rattle.plan.specs.Reading.{groupsIn, wellShaped}
-use Rattle.plan.specs.Laws.{counted}
+use Rattle.plan.specs.Reading.{counted}
 use Rattle.plan.proofs.Named.{named-below}
 use Rattle.plan.proofs.Words.{moves-mean, named-mean}
 use Rattle.plan.proofs.Counted.{counted-moves}

@@ -16,7 +16,8 @@ use Rattle.sheet.specs.Valid.{Valid}
 use Rattle.sheet.specs.Parse.{Parsed, parse}
 use Rattle.plan.specs.Reading.{boundIn}
 use Rattle.plan.specs.Laws.{PlanLaws}
-use Rattle.command.specs.State.{modeOf, withMode, goalFaults}
+use Rattle.command.specs.State.{modeOf, withMode}
+use Rattle.command.specs.Goal.{goalFaults}
 use Rattle.command.specs.Goal.{goalMasks}
 use Rattle.command.specs.Attainable.{attainFaults}
 use Rattle.command.specs.Covered.{Covered}

@@ -14,7 +14,8 @@ use Rattle.sheet.specs.Model.{Model}
 use Rattle.sheet.specs.Parse.{Parsed, parse}
 use Rattle.plan.specs.Groups.{groupCount}
 use Rattle.plan.specs.Reading.{groupsIn, wellShaped}
-use Rattle.command.specs.State.{stateFaults, goalFaults}
+use Rattle.command.specs.State.{stateFaults}
+use Rattle.command.specs.Goal.{goalFaults}
 use Rattle.command.specs.Goal.{goalMasks}
 use Rattle.command.specs.Attainable.{attainFaults}
 use Rattle.command.specs.Next.{done, command, fulfil, goalRefusals, misshapen, nextReply}

@@ -20,7 +20,8 @@ use Rattle.plan.specs.Groups.{groupCount, smallestMember}
 use Rattle.plan.specs.Modes.{size}
 use Rattle.plan.specs.Reading.{wellShaped}
 use Rattle.command.specs.Goal.{Masks, met}
-use Rattle.command.specs.Ancestors.{downTo, upstreamIn}
+use Rattle.common.specs.Lists.{downTo}
+use Rattle.command.specs.Ancestors.{upstreamIn}
 use Rattle.command.specs.Attainable.{groups, present, liveGroup, attains, deadEnd}
 use Rattle.command.specs.Attainable.{faultOf, groupFaults, attainFaults}
 use Rattle.command.specs.Uncovered.{Concerns, AllLive, NotLive, DeadEnd}

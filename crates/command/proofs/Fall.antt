@@ -14,7 +14,8 @@ use Rattle.common.proofs.SumsBelow.{sumBelow, sumBelow-up, sumBelow-mem, sumBel
 use Rattle.sheet.specs.Model.{Model, moveAt}
 use Rattle.sheet.specs.Valid.{Valid}
 use Rattle.plan.specs.Groups.{groupCount, movesOf, namedOutside}
-use Rattle.plan.specs.Laws.{counted, TableLaws, RouteLaws, CostLaws}
+use Rattle.plan.specs.Reading.{counted}
+use Rattle.plan.specs.Laws.{TableLaws, RouteLaws, CostLaws}
 use Rattle.command.specs.Goal.{Masks, guardMasks, met, allowed}
 use Rattle.command.specs.Attainable.{groups}
 use Rattle.command.specs.Covered.{Covered}

@@ -16,7 +16,8 @@ use Rattle.plan.specs.Modes.{size}
 use Rattle.plan.specs.Usable.{endMode}
 use Rattle.plan.specs.Table.{Entry}
 use Rattle.plan.specs.Reading.{entryAt}
-use Rattle.plan.specs.Laws.{counted, TableLaws, RouteLaws, CostLaws}
+use Rattle.plan.specs.Reading.{counted}
+use Rattle.plan.specs.Laws.{TableLaws, RouteLaws, CostLaws}
 use Rattle.command.specs.Goal.{Masks, guardMasks, met, allowed}
 use Rattle.command.specs.Attainable.{groups, present}
 use Rattle.command.specs.Covered.{Covered}

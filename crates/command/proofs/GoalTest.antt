@@ -18,7 +18,7 @@ use Rattle.common.proofs.Reply.{unless-clear, unless-first, unless-later}
 use Rattle.sheet.specs.Record.{byte}
 use Rattle.sheet.specs.Model.{Model, machineCount}
 use Rattle.plan.specs.Kept.Sizes.{CountsOf}
-use Rattle.command.specs.State.{badByte, goalFaults}
+use Rattle.command.specs.Goal.{badByte, goalFaults}
 
 pub record GoodBytes (goal modes : List ℕ) (i : ℕ) : Type 0 where
   pub each : (m : Model) → CountsOf m modes → (j : ℕ) → j < i → badByte m goal j ≡ false

@@ -26,7 +26,7 @@ use Rattle.plan.proofs.Named.{named-other, named-of-move, guard-inside-or-named
 use Rattle.plan.proofs.Modes.{member-below, member-of, is-member}
 use Rattle.plan.proofs.Modes.{modeIn-below, modeNumber-below, modeIn-modeNumber}
 use Rattle.plan.proofs.Words.{members-mean, live-means}
-use Rattle.plan.specs.Laws.{counted}
+use Rattle.plan.specs.Reading.{counted}
 use Rattle.command.specs.State.{modes, modeOf}
 use Rattle.command.specs.Goal.{Masks, anyMode, guardMasks, met, allowed}
 use Rattle.command.specs.Ancestors.{upstreamIn}

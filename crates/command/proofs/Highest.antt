@@ -14,7 +14,7 @@ use Rattle.common.proofs.Bools.{by-cases, true-false, not-of-true, not-of-false
 use Rattle.common.proofs.Clear.{unless-append-clear, unless-append-decides}
 use Rattle.sheet.specs.Model.{Model}
 use Rattle.plan.specs.Groups.{groupCount, smallestMember}
-use Rattle.command.specs.Ancestors.{downTo}
+use Rattle.common.specs.Lists.{downTo}
 use Rattle.command.specs.Attainable.{groups, highest, faultOf}
 
 -- n - 1, .. 1, 0 are the numbers below n

@@ -22,7 +22,7 @@ use Rattle.plan.specs.Reading.{groupsIn}
 use Rattle.plan.proofs.Modes.{member-below, member-of}
 use Rattle.plan.proofs.Named.{group-below-count}
 use Rattle.command.specs.Goal.{Masks, met}
-use Rattle.command.specs.Ancestors.{downTo}
+use Rattle.common.specs.Lists.{downTo}
 use Rattle.command.specs.Attainable.{attainFaults}
 use Rattle.command.specs.Next.{done, followBy, fulfil}
 use Rattle.command.specs.Kept.Question.{Placed, GroupsOnly, UnmetSet}

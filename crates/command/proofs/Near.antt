@@ -22,7 +22,8 @@ use Rattle.sheet.proofs.Place.{refusal-near}
 use Rattle.plan.specs.Groups.{smallestMember}
 use Rattle.plan.specs.Reading.{groupsIn}
 use Rattle.plan.proofs.GroupLoops.{smallest-inside}
-use Rattle.command.specs.State.{badPair, stateFaults, badByte, goalFaults}
+use Rattle.command.specs.State.{badPair, stateFaults}
+use Rattle.command.specs.Goal.{badByte, goalFaults}
 use Rattle.command.specs.Goal.{Masks, goalMasks, met}
 use Rattle.command.specs.Attainable.{groups, faultOf, groupFaults, attainFaults}
 use Rattle.command.specs.Next.{Next, holdsOutside, prepareBy, followBy, fulfil, goalRefusals, nextReply}

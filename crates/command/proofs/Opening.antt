@@ -33,7 +33,7 @@ use Rattle.plan.specs.Kept.Partition.{cappedWeights, Partitioned}
 use Rattle.plan.specs.Kept.ModeSets.{Weighed, Sized, ZeroSets}
 use Rattle.plan.specs.Promised.{SmallGroups}
 use Rattle.plan.specs.Reading.{groupsIn, wellShaped}
-use Rattle.plan.specs.Answers.{verdictSays, shapeReply, outlineReply}
+use Rattle.plan.specs.Says.{verdictSays, shapeReply, outlineReply}
 use Rattle.plan.specs.Kept.Outline.{Outlined}
 use Rattle.plan.proofs.CappedSizes.{capped-small}
 use Rattle.plan.proofs.Counted.{counted-planned}

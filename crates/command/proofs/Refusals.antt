@@ -16,7 +16,7 @@ use Rattle.sheet.proofs.Parsed.{parse-valid}
 use Rattle.plan.specs.Groups.{groupCount}
 use Rattle.plan.specs.Reading.{wellShaped}
 use Rattle.command.specs.Goal.{Masks, met}
-use Rattle.command.specs.Ancestors.{downTo}
+use Rattle.common.specs.Lists.{downTo}
 use Rattle.command.specs.Attainable.{groups, groupFaults, attainFaults}
 use Rattle.command.specs.Uncovered.{Uncovered, UncoveredRefused}
 use Rattle.command.proofs.Shape.{Sound, sound-state}

@@ -20,8 +20,8 @@ use Rattle.plan.specs.Bytes.{tableAt, planLength}
 use Rattle.plan.specs.Planning.{lengthReply, planReply, bufferAfter, scratchAfter}
 use Rattle.plan.specs.Reading.{boundIn}
 use Rattle.plan.specs.Kept.Outline.{boundAt}
-use Rattle.plan.specs.Answers.{measuredOf}
-use Rattle.plan.specs.Answers.{plannedOf, toldOf}
+use Rattle.plan.specs.Says.{measuredOf}
+use Rattle.plan.specs.Says.{plannedOf, toldOf}
 use Rattle.plan.proofs.Planned.{planned}
 use Rattle.plan.proofs.Planning.{plan-accepted}
 use Rattle.plan.proofs.RecordTests.{bound-at}

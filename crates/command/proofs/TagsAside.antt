@@ -15,9 +15,11 @@ use Rattle.sheet.specs.Model.{Model, machineCount}
 use Rattle.plan.specs.Groups.{groupOf, groupCount, members}
 use Rattle.plan.specs.Reading.{groupsIn, wellShaped}
 use Rattle.plan.proofs.Modes.{member-of}
-use Rattle.command.specs.State.{modes, modeOf, tagOf, goalFaults}
+use Rattle.command.specs.State.{modes, modeOf, tagOf}
+use Rattle.command.specs.Goal.{goalFaults}
 use Rattle.command.specs.Goal.{Masks, goalMasks, met}
-use Rattle.command.specs.Ancestors.{downTo, upstreamIn}
+use Rattle.common.specs.Lists.{downTo}
+use Rattle.command.specs.Ancestors.{upstreamIn}
 use Rattle.command.specs.Attainable.{liveGroup, deadEnd, groupFaults, attainFaults}
 use Rattle.command.specs.TurnedDown.{StateFits}
 use Rattle.command.specs.Uncovered.{Concerns}

@@ -25,7 +25,7 @@ use Rattle.plan.specs.Modes.{Fits, size, modeNumber}
 use Rattle.plan.specs.Reading.{groupsIn, wellShaped}
 use Rattle.plan.proofs.Named.{guard-valid}
 use Rattle.plan.proofs.Modes.{member-below, modeNumber-below, modeIn-modeNumber}
-use Rattle.command.specs.State.{badByte, goalFaults}
+use Rattle.command.specs.Goal.{badByte, goalFaults}
 use Rattle.command.specs.Goal.{Masks, anyMode, goalMasks, guardMasks, allowed}
 use Rattle.command.specs.Attainable.{groups}
 use Rattle.command.specs.Next.{distanceTo, nearest, targetOf}

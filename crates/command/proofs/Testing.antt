@@ -15,8 +15,9 @@ use Rattle.sheet.specs.declared.refusal.Verdict.the-variants.{Refused}
 use Rattle.sheet.specs.Refusal.{numberOf}
 use Rattle.sheet.specs.Model.{Model}
 use Rattle.sheet.specs.Parse.{parse}
-use Rattle.plan.specs.Answers.{verdictSays, shapeReply, outlineReply}
-use Rattle.command.specs.State.{stateFaults, goalFaults}
+use Rattle.plan.specs.Says.{verdictSays, shapeReply, outlineReply}
+use Rattle.command.specs.State.{stateFaults}
+use Rattle.command.specs.Goal.{goalFaults}
 use Rattle.command.specs.Goal.{goalMasks}
 use Rattle.command.specs.Attainable.{attainFaults}
 use Rattle.command.specs.Next.{misshapen, goalRefusals, nextReply}

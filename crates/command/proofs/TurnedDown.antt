@@ -25,7 +25,8 @@ use Rattle.sheet.proofs.Parsed.{parse-valid}
 use Rattle.plan.specs.Groups.{groupCount}
 use Rattle.plan.specs.Reading.{groupsIn, wellShaped}
 use Rattle.plan.proofs.Shape.{shapes-right}
-use Rattle.command.specs.State.{modeOf, tagOf, badPair, stateFaults, badByte, goalFaults}
+use Rattle.command.specs.State.{modeOf, tagOf, badPair, stateFaults}
+use Rattle.command.specs.Goal.{badByte, goalFaults}
 use Rattle.command.specs.Goal.{goalMasks}
 use Rattle.command.specs.Attainable.{attainFaults}
 use Rattle.command.specs.Next.{fulfil, goalRefusals, nextReply}

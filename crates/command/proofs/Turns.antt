@@ -25,7 +25,7 @@ use Rattle.command.specs.declared.acting.Change.{Change}
 use Rattle.command.specs.declared.acting.Change.the-variants.{Changed, Unchanged, TurnedDown}
 use Rattle.command.specs.Next.{nextReply}
 use Rattle.command.specs.Apply.{Applied, Effect, applyReply, effectReply, stateAfter}
-use Rattle.command.specs.Answers.{adviceSays, changeSays}
+use Rattle.command.specs.Says.{adviceSays, changeSays}
 use Rattle.command.specs.Walk.{Turn, obeyed, obeyReply, turnBy, turnReply, afterPlanning, walkLines}
 use Rattle.command.specs.Walking.{planFront, turnTold, turnLeaves, TurnsRight}
 use Rattle.command.proofs.method.Advice.{the-type as advice-type}

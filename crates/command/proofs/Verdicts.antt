@@ -12,7 +12,7 @@ use Rattle.sheet.specs.declared.refusal.Cause.{Cause}
 use Rattle.sheet.specs.declared.refusal.Verdict.{Verdict}
 use Rattle.sheet.specs.declared.refusal.Verdict.the-variants.{Accepted, Refused}
 use Rattle.sheet.specs.Refusal.{numberOf}
-use Rattle.plan.specs.Answers.{verdictSays}
+use Rattle.plan.specs.Says.{verdictSays}
 
 module _ (fs : List Fault) {v : Verdict} (e : verdictSays v ≡ unless fs (given tt)) where
   pub accepted-clear : v ≡ Accepted → clear fs ≡ true

@@ -21,7 +21,7 @@ use Rattle.sheet.specs.Model.{Model, machineCount, modeCount}
 use Rattle.sheet.specs.Valid.{Valid}
 use Rattle.plan.specs.Kept.Sizes.{CountsOf}
 use Rattle.plan.proofs.ArrayLoops.{fills-map}
-use Rattle.command.specs.State.{goalFaults}
+use Rattle.command.specs.Goal.{goalFaults}
 use Rattle.command.specs.Goal.{goalMasks}
 use Rattle.command.specs.Kept.Question.{Allows}
 use Rattle.command.proofs.Guards.{full-byte}

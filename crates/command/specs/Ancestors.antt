@@ -1,8 +1,8 @@
 -- "Upstream" of a group: the groups that it reaches through needs.
-use Prim.Native.Nat.{ℕ, zero, suc, _<_}
+use Prim.Native.Nat.{ℕ, _<_}
 use mathlib.Core.Path.{_≡_}
 use mathlib.Core.Logic.{_↔_}
-use mathlib.Core.List.{List, [], _∷_, map, List·Memᴰ}
+use mathlib.Core.List.{List, map, List·Memᴰ}
 use mathlib.Core.Bool.{Bool, true, not, _&&_}
 use lib.Dec.{eqb}
 use Rattle.common.specs.Lists.{upTo}
@@ -12,12 +12,7 @@ use Rattle.sheet.specs.Valid.{Valid}
 use Rattle.plan.specs.Groups.{Grouping, groupCount, namedOutside}
 use Rattle.plan.specs.Meaning.{NamesOutside}
 use Rattle.plan.specs.Reading.{groupsIn, wellShaped}
-use Rattle.plan.specs.Laws.{counted}
-
--- n - 1, .. 1, 0
-unfoldable pub downTo : ℕ → List ℕ
-downTo zero = []
-downTo (suc n) = n ∷ downTo n
+use Rattle.plan.specs.Reading.{counted}
 
 -- Given for each group those of its moves that count as naming other groups
 module _ (m : Model) (groups : Grouping) (counting : ℕ → List ℕ) where

@@ -23,12 +23,14 @@ use Rattle.plan.specs.Table.{starts, entryOf, tableOf}
 use Rattle.plan.specs.Bound.{longest, costIn, costsUpto, boundOf, planBound}
 use Rattle.plan.specs.Bytes.{fourBytes, tableIn, bytesOf, tableLength, tableAt, planLength}
 use Rattle.plan.specs.Planning.{large, largeGroup, largePlace, largePlan, largeBound, sizeFaults, wrongBuffer, ownPlan, lengthReply, planReply}
-use Rattle.plan.specs.Laws.{counted}
+use Rattle.plan.specs.Reading.{counted}
 use Rattle.plan.specs.Reading.{groupsIn, tableOfGroup, entryIn, entryAt, hasRecord, gapless, needsFirst, fitsRecords, wellShaped, boundIn}
-use Rattle.command.specs.State.{everySecond, modes, tags, withMode, badPair, stateFaults, badByte, goalFaults}
+use Rattle.command.specs.State.{everySecond, modes, tags, withMode, badPair, stateFaults}
+use Rattle.command.specs.Goal.{badByte, goalFaults}
 use Rattle.command.specs.Tagless.{tagless}
 use Rattle.command.specs.Goal.{goalMasks, guardMasks, met, allowed}
-use Rattle.command.specs.Ancestors.{downTo, groupGraph, upstream}
+use Rattle.common.specs.Lists.{downTo}
+use Rattle.command.specs.Ancestors.{groupGraph, upstream}
 use Rattle.command.specs.Attainable.{liveGroup, attains, deadEnd, highest, faultOf, groupFaults, attainFaults}
 use Rattle.command.specs.Next.{Next, done, command, nearest, targetOf, holdsInside, holdsOutside, unfit, prepareBy, followBy, fulfil}
 use Rattle.command.specs.Next.{goalRefusals, misshapen, nextReply}

@@ -1,14 +1,15 @@
--- "Wishes, and which are covered": what a goal ("wish") allows each machine, and when a group is met.
+-- "Wishes, and which are covered": what a goal ("wish") allows each machine, when a group is met, and 14 of "Why a call is turned down".
 -- A goal is a mask for each machine. It is made of the caller's bytes, or of a move's needs.
 use Prim.Native.Nat.{ℕ}
-use mathlib.Core.List.{List, map}
-use mathlib.Core.Bool.{Bool, cond}
+use mathlib.Core.List.{List, [], _∷_, map}
+use mathlib.Core.Bool.{Bool, cond, _||_}
 use lib.ListN.{length, getD}
 use lib.Dec.{eqb, ltb}
-use Rattle.common.specs.Lists.{upTo, all, find}
-use Rattle.common.specs.Bits.{bit}
+use Rattle.common.specs.Lists.{upTo, all, any, find}
+use Rattle.common.specs.Bits.{bit, beyond}
+use Rattle.common.specs.Reply.{Fault, fault}
 use Rattle.sheet.specs.Record.{byte}
-use Rattle.sheet.specs.Model.{Move, Model, machineCount, guard}
+use Rattle.sheet.specs.Model.{Move, Model, machineCount, modeCount, guard}
 use Rattle.plan.specs.Groups.{Grouping, groupOf, members}
 use Rattle.plan.specs.Modes.{modeIn}
 use Rattle.command.specs.State.{modeOf}
@@ -44,3 +45,14 @@ met groups masks state k = all (λ i. allows masks i (modeOf state i)) (members 
 -- group mode q of group k is allowed
 unfoldable pub allowed : Model → Grouping → Masks → ℕ → ℕ → Bool
 allowed m groups masks k q = all (λ i. allows masks i (modeIn m groups k q i)) (members groups k)
+
+module _ (m : Model) where
+  -- 14: the goal is too long (place 255), or a byte is empty or beyond (place the first such machine)
+  unfoldable pub badByte : List ℕ → ℕ → Bool
+  badByte goal i = eqb (byte goal i) 0 || beyond (modeCount m i) (byte goal i)
+
+  unfoldable pub goalFaults : List ℕ → List Fault
+  goalFaults goal =
+      fault 14 255 (ltb (machineCount m) (length goal))
+      ∷ fault 14 (find (badByte goal) (upTo (length goal)) 0) (any (badByte goal) (upTo (length goal)))
+      ∷ []

@@ -1,5 +1,4 @@
 pub mod Ancestors
-pub mod Answers
 pub mod Apply
 pub mod Applying
 pub mod Arrival
@@ -13,6 +12,7 @@ pub mod Meaning
 pub mod Method
 pub mod Next
 pub mod Run
+pub mod Says
 pub mod State
 pub mod Tagless
 pub mod Tags

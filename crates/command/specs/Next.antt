@@ -12,7 +12,8 @@ use Rattle.plan.specs.Groups.{groupOf, groupCount}
 use Rattle.plan.specs.Modes.{size}
 use Rattle.plan.specs.Table.{Entry}
 use Rattle.plan.specs.Reading.{groupsIn, entryAt, wellShaped}
-use Rattle.command.specs.State.{modeOf, stateFaults, goalFaults}
+use Rattle.command.specs.State.{modeOf, stateFaults}
+use Rattle.command.specs.Goal.{goalFaults}
 use Rattle.command.specs.Goal.{Masks, goalMasks, guardMasks, met, allowed}
 use Rattle.command.specs.Attainable.{groups, present, attainFaults}
 

@@ -1,15 +1,12 @@
--- "Wishes, and which are covered": the lent state and goal, with 13 and 14 of "Why a call is turned down".
--- In both the length is judged before the bytes.
+-- "Wishes, and which are covered": the lent state, with 13 of "Why a call is turned down". Its length is judged before its bytes.
 -- A state has two bytes for each machine: its mode, then its tag, 1 if nobody may move it, else 0.
 use Prim.Native.Nat.{ℕ, _*_}
 use mathlib.Core.List.{List, [], _∷_}
 use mathlib.Core.Bool.{Bool, not, _||_}
 use lib.ListN.{length, getD, set, drop}
-use lib.Dec.{eqb, ltb, leb}
+use lib.Dec.{eqb, leb}
 use Rattle.common.specs.Lists.{upTo, any, find}
-use Rattle.common.specs.Bits.{beyond}
 use Rattle.common.specs.Reply.{Fault, fault}
-use Rattle.sheet.specs.Record.{byte}
 use Rattle.sheet.specs.Model.{Model, machineCount, modeCount}
 
 -- every second byte, from the first on
@@ -49,14 +46,4 @@ module _ (m : Model) where
   stateFaults state =
       fault 13 255 (not (eqb (length state) (2 * machineCount m)))
       ∷ fault 13 (find (badPair state) (upTo (machineCount m)) 0) (any (badPair state) (upTo (machineCount m)))
-      ∷ []
-
-  -- 14: the goal is too long (place 255), or a byte is empty or beyond (place the first such machine)
-  unfoldable pub badByte : List ℕ → ℕ → Bool
-  badByte goal i = eqb (byte goal i) 0 || beyond (modeCount m i) (byte goal i)
-
-  unfoldable pub goalFaults : List ℕ → List Fault
-  goalFaults goal =
-      fault 14 255 (ltb (machineCount m) (length goal))
-      ∷ fault 14 (find (badByte goal) (upTo (length goal)) 0) (any (badByte goal) (upTo (length goal)))
       ∷ []

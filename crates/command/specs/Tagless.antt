@@ -15,9 +15,10 @@ use Rattle.plan.specs.Groups.{groupOf, groupCount, members, smallestMember}
 use Rattle.plan.specs.Modes.{size, modeNumber}
 use Rattle.plan.specs.Table.{Entry}
 use Rattle.plan.specs.Reading.{groupsIn, entryAt}
-use Rattle.command.specs.State.{goalFaults}
+use Rattle.command.specs.Goal.{goalFaults}
 use Rattle.command.specs.Goal.{Masks, allows, goalMasks, guardMasks, allowed}
-use Rattle.command.specs.Ancestors.{downTo, upstreamIn}
+use Rattle.common.specs.Lists.{downTo}
+use Rattle.command.specs.Ancestors.{upstreamIn}
 use Rattle.command.specs.Attainable.{groups, route, attains, faultOf}
 use Rattle.command.specs.Next.{Next, done, command, misshapen, nextReply}
 use Rattle.command.specs.Apply.{Applied, noneActs, applyReply}

@@ -11,7 +11,8 @@ use Rattle.sheet.specs.Record.{byte}
 use Rattle.sheet.specs.Model.{Model, machineCount, modeCount}
 use Rattle.sheet.specs.Parse.{Parsed, parse}
 use Rattle.plan.specs.Shape.{Shaped}
-use Rattle.command.specs.State.{stateFaults, goalFaults}
+use Rattle.command.specs.State.{stateFaults}
+use Rattle.command.specs.Goal.{goalFaults}
 use Rattle.command.specs.Next.{nextReply}
 use Rattle.command.specs.Apply.{applyReply}
 

@@ -12,7 +12,8 @@ use Rattle.plan.specs.Groups.{groupOf, groupCount}
 use Rattle.plan.specs.Modes.{size}
 use Rattle.plan.specs.Laws.{Connects}
 use Rattle.plan.specs.Reading.{wellShaped}
-use Rattle.command.specs.State.{stateFaults, goalFaults}
+use Rattle.command.specs.State.{stateFaults}
+use Rattle.command.specs.Goal.{goalFaults}
 use Rattle.command.specs.Goal.{Masks, goalMasks, met}
 use Rattle.command.specs.Ancestors.{upstreamIn}
 use Rattle.command.specs.Attainable.{groups, present, liveGroup, attainFaults}

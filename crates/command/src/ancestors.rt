@@ -14,7 +14,8 @@ ghost use Rattle.plan.specs.Reading.{groupsIn, wellShaped};
 ghost use Rattle.command.specs.Kept.Question.{NamedBy, UpstreamSet, UpstreamOfSome, MarkedFrom};
 
 // Goes on with the marks of a pass down the group numbers that has come to `top`: what a marked group or one of some groups names is
-// marked. A group names lower ones alone, so once the pass has been at a number, the marks from there up are final.
+// marked. A group names lower ones alone, so once the pass has been at a number, the marks from there up are final. `all` in the contract is
+// the whole set of those groups, which `groups` need be only below `top`.
 fn pass(named: &[u64], groups: u64, marks: u64, top: usize) -> u64
     requires { ⌜ (length (now named) ≡ 32) × (top ≤ 32) ⌝ }
     ensures { λ r. ⌜ ((m : Model) (plan : List ℕ) (all : ℕ) → Valid m → wellShaped m plan ≡ true

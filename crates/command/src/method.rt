@@ -21,7 +21,7 @@ ghost use Rattle.plan.specs.Reading.{groupsIn};
 ghost use Rattle.command.specs.Goal.{Masks};
 ghost use Rattle.command.specs.Next.{fulfil, followBy, prepareBy};
 ghost use Rattle.command.specs.Kept.Question.{Kept, Listed, AllowedSet, OnlyOutside};
-ghost use Rattle.command.specs.Answers.{adviceSays};
+ghost use Rattle.command.specs.Says.{adviceSays};
 
 // What is to be done next: nothing, a command, or the refusal.
 pub enum Advice {

@@ -9,6 +9,11 @@ unfoldable pub upTo : ℕ → List ℕ
 upTo zero = []
 upTo (suc n) = upTo n ++ (n ∷ [])
 
+-- n - 1, .. 1, 0
+unfoldable pub downTo : ℕ → List ℕ
+downTo zero = []
+downTo (suc n) = n ∷ downTo n
+
 module _ {A : Type 0} where
   -- for each
   unfoldable pub all : (A → Bool) → List A → Bool

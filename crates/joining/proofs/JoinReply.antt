@@ -14,7 +14,7 @@ use Rattle.sheet.specs.declared.index.Sheet.{Sheet}
 use Rattle.sheet.specs.Model.{Model, machineCount}
 use Rattle.sheet.specs.Parse.{parse}
 use Rattle.sheet.specs.Kept.Indexed.{Indexes}
-use Rattle.command.specs.State.{goalFaults}
+use Rattle.command.specs.Goal.{goalFaults}
 use Rattle.command.proofs.TurnedDown.{goal-passes}
 use Rattle.joining.specs.Join.{Goals, mostGoals, goalsIn, eachFaults, sharedFaults, joined}
 use Rattle.joining.specs.Join.{joinedReply, joinReply}

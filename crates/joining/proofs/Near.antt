@@ -15,7 +15,7 @@ use Rattle.sheet.specs.Valid.{Valid}
 use Rattle.sheet.specs.Parse.{parse}
 use Rattle.sheet.proofs.Parsed.{parse-valid}
 use Rattle.sheet.proofs.Place.{refusal-near}
-use Rattle.command.specs.State.{badByte, goalFaults}
+use Rattle.command.specs.Goal.{badByte, goalFaults}
 use Rattle.command.proofs.Near.{Near, none-near, first-near, find-inside}
 use Rattle.joining.specs.Join.{Goals, goalsIn, longestGoal, nothingShared, sharedFaults, eachFaults, joined, joinedReply, joinReply}
 use Rattle.joining.proofs.Slices.{goals-refused}

@@ -18,7 +18,7 @@ use Rattle.sheet.specs.Model.{Model}
 use Rattle.sheet.specs.Valid.{Valid}
 use Rattle.sheet.specs.Parse.{Parsed, parse}
 use Rattle.sheet.proofs.Parsed.{parse-valid}
-use Rattle.command.specs.State.{goalFaults}
+use Rattle.command.specs.Goal.{goalFaults}
 use Rattle.command.proofs.TurnedDown.{goal-passes, first-wrong-refuses, too-long, wrong-byte}
 use Rattle.joining.specs.Join.{Goals, goalsIn, longestGoal, joined, nothingShared, noRoom, sharedFaults, eachFaults}
 use Rattle.joining.specs.Join.{joinedReply, joinReply}

@@ -11,7 +11,7 @@ use Rattle.sheet.specs.Model.{moveOf, withMachine, withMove}
 use Rattle.sheet.specs.Faults.{wrongMoveLength, badMachine, badMove, badGuard, badGuards, sameMove, badCommand}
 use Rattle.sheet.specs.Faults.{machineFaults, moveFaults, endFaults, faultsOf}
 use Rattle.sheet.specs.Parse.{extended, turnAt, parseFrom, parse}
-use Rattle.command.specs.State.{badByte, goalFaults}
+use Rattle.command.specs.Goal.{badByte, goalFaults}
 use Rattle.command.specs.Examples.{stove}
 use Rattle.joining.specs.Join.{goalsIn, sharedModes, longestGoal, joined, nothingShared, noRoom, sharedFaults, eachFaults}
 use Rattle.joining.specs.Join.{joinedReply, joinReply}

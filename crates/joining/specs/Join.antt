@@ -9,7 +9,7 @@ use Rattle.common.specs.Bits.{bit}
 use Rattle.common.specs.Reply.{Reply, given, refused, Fault, fault, unless, andThen}
 use Rattle.sheet.specs.Model.{Model}
 use Rattle.sheet.specs.Parse.{parse}
-use Rattle.command.specs.State.{goalFaults}
+use Rattle.command.specs.Goal.{goalFaults}
 use Rattle.command.specs.Goal.{wished}
 
 abbrev pub Goals : Type 0

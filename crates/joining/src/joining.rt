@@ -16,7 +16,7 @@ ghost use Rattle.common.specs.Lists.{upTo, find};
 ghost use Rattle.common.specs.Reply.{given, unless, lengthOf, outputAfter};
 ghost use Rattle.sheet.specs.Model.{Model, machineCount};
 ghost use Rattle.plan.specs.Kept.Sizes.{CountsOf};
-ghost use Rattle.plan.specs.Answers.{measuredOf};
+ghost use Rattle.plan.specs.Says.{measuredOf};
 ghost use Rattle.joining.specs.Join.{Goals, joined, sharedFaults, joinedReply, joinReply};
 ghost use Rattle.joining.specs.Kept.Lent.{SplitsShort};
 

@@ -26,8 +26,8 @@ use Rattle.plan.specs.declared.measure.Length.the-variants.{Refused}
 use Rattle.plan.specs.declared.making.Planned.{Planned}
 use Rattle.plan.specs.declared.making.Planned.the-variants.{Written, Refused as Unplanned}
 use Rattle.plan.specs.Planning.{lengthReply, planReply}
-use Rattle.plan.specs.Answers.{plannedOf, toldOf}
-use Rattle.plan.specs.Answers.{measuredOf}
+use Rattle.plan.specs.Says.{plannedOf, toldOf}
+use Rattle.plan.specs.Says.{measuredOf}
 use Rattle.plan.proofs.SheetLength.{length-near, plan-near}
 use Rattle.command.specs.declared.method.Advice.{Advice}
 use Rattle.command.specs.declared.method.Advice.the-variants.{Done, Send, Refused as Unadvised}
@@ -35,7 +35,7 @@ use Rattle.command.specs.declared.acting.Change.{Change}
 use Rattle.command.specs.declared.acting.Change.the-variants.{Changed, Unchanged, TurnedDown}
 use Rattle.command.specs.Next.{nextReply}
 use Rattle.command.specs.Apply.{applyReply, effectOf, effectReply}
-use Rattle.command.specs.Answers.{adviceSays, changeSays}
+use Rattle.command.specs.Says.{adviceSays, changeSays}
 use Rattle.command.proofs.Near.{next-near, apply-near}
 use Rattle.joining.specs.Join.{joinReply}
 use Rattle.joining.proofs.Near.{join-near}

@@ -13,7 +13,7 @@ ghost use Rattle.sheet.specs.Refusal.{numberOf};
 ghost use Rattle.sheet.specs.Parse.{parse};
 ghost use lib.ListN.{length};
 ghost use Rattle.plan.specs.Planning.{lengthReply, planReply, bufferAfter, scratchAfter};
-ghost use Rattle.plan.specs.Answers.{measuredOf};
+ghost use Rattle.plan.specs.Says.{measuredOf};
 ghost use Rattle.command.specs.Next.{nextReply};
 ghost use Rattle.command.specs.Apply.{applyReply, effectReply, stateAfter};
 ghost use Rattle.joining.specs.Join.{joinReply};

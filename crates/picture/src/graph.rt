@@ -20,7 +20,7 @@ ghost use lib.ListN.{length};
 ghost use Rattle.common.specs.Reply.{lengthOf, outputAfter};
 ghost use Rattle.sheet.specs.Model.{Model};
 ghost use Rattle.sheet.specs.Kept.Indexed.{Indexed, Indexes};
-ghost use Rattle.plan.specs.Answers.{measuredOf};
+ghost use Rattle.plan.specs.Says.{measuredOf};
 ghost use Rattle.picture.specs.Picture.{pictureOf, pictureBytes};
 ghost use Rattle.picture.specs.Text.{textOf};
 ghost use Rattle.picture.specs.Graph.{fitted, graphReply, readReply};

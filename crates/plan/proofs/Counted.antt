@@ -7,7 +7,7 @@ use mathlib.Core.List.{List, List·Memᴰ}
 use Rattle.sheet.specs.Model.{Model}
 use Rattle.plan.specs.Groups.{movesOf}
 use Rattle.plan.specs.Reading.{groupsIn}
-use Rattle.plan.specs.Laws.{counted}
+use Rattle.plan.specs.Reading.{counted}
 
 -- under a plan
 module _ (m : Model) (plan : List ℕ) (k : ℕ) where

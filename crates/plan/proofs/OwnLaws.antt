@@ -15,7 +15,8 @@ use Rattle.plan.specs.Routes.{usableMoves}
 use Rattle.plan.specs.Table.{entryOf}
 use Rattle.plan.specs.Bound.{longest, planBound}
 use Rattle.plan.specs.Meaning.{Route, Usable, EntryRight, here, move, always}
-use Rattle.plan.specs.Laws.{TableLaws, RouteLaws, CostLaws, PlanLaws, counted, Connects, IsDistance}
+use Rattle.plan.specs.Laws.{TableLaws, RouteLaws, CostLaws, PlanLaws, Connects, IsDistance}
+use Rattle.plan.specs.Reading.{counted}
 use Rattle.plan.proofs.Named.{named-below}
 use Rattle.plan.proofs.Routes.{allRoutes}
 use Rattle.plan.proofs.Words.{live-means, meets-means, named-means}

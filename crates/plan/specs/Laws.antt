@@ -12,7 +12,7 @@ use Rattle.plan.specs.Modes.{size, liveMode}
 use Rattle.plan.specs.Usable.{meets, leads, endMode}
 use Rattle.plan.specs.Meaning.{Usable}
 use Rattle.plan.specs.Planning.{planReply}
-use Rattle.plan.specs.Reading.{groupsIn, entryAt, boundIn, wellShaped}
+use Rattle.plan.specs.Reading.{groupsIn, entryAt, boundIn, wellShaped, counted}
 
 -- a distance of the plan that is a route
 abbrev pub IsDistance : Model → List ℕ → ℕ → ℕ → ℕ → ℕ → Type 0
@@ -21,10 +21,6 @@ IsDistance m plan k p q d = (entryAt m plan k p q .distance ≡ d) × (d < 255)
 -- the plan shows a route
 abbrev pub Connects : Model → List ℕ → ℕ → ℕ → ℕ → Type 0
 Connects m plan k p q = entryAt m plan k p q .distance < 255
-
--- those moves of group k that count as naming other groups, under a plan: all of the group
-unfoldable pub counted : Model → List ℕ → ℕ → List ℕ
-counted m plan k = movesOf m (groupsIn m plan) k
 
 module _ (m : Model) (plan : List ℕ) where
   abbrev groups : Grouping

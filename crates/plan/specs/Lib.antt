@@ -1,4 +1,3 @@
-pub mod Answers
 pub mod Bound
 pub mod Bytes
 pub mod Groups
@@ -11,6 +10,7 @@ pub mod Planning
 pub mod Promised
 pub mod Reading
 pub mod Routes
+pub mod Says
 pub mod Shape
 pub mod Table
 pub mod Usable

@@ -123,8 +123,8 @@ module _ (m : Model) (groups : Grouping) where
 
 -- the modes of some machines as one number: the first machine's mode, and the rest's number times its mode count
 unfoldable pub asOne : Model → List ℕ → List ℕ → ℕ
-asOne m state [] = 0
-asOne m state (i ∷ is) = getD state i 0 + modeCount m i * asOne m state is
+asOne m modes [] = 0
+asOne m modes (i ∷ is) = getD modes i 0 + modeCount m i * asOne m modes is
 
 -- A group mode's number and its machines' modes translate both ways, within range.
 pub record ModesRight (m : Model) (groups : Grouping) (k : ℕ) : Type 0 where
@@ -133,10 +133,10 @@ pub record ModesRight (m : Model) (groups : Grouping) (k : ℕ) : Type 0 where
   pub members-rise : (n : ℕ) → suc n < length (members groups k)
       → getD (members groups k) n 0 < getD (members groups k) (suc n) 0
   -- smaller machines weigh less
-  pub number-is : (state : List ℕ) → modeNumber m groups k state ≡ asOne m state (members groups k)
-  pub number-below : (state : List ℕ) → Fits m state → modeNumber m groups k state < size m groups k
+  pub number-is : (modes : List ℕ) → modeNumber m groups k modes ≡ asOne m modes (members groups k)
+  pub number-below : (modes : List ℕ) → Fits m modes → modeNumber m groups k modes < size m groups k
   pub mode-below : (p i : ℕ) → Belongs m groups i k → modeIn m groups k p i < modeCount m i
-  pub there-and-back : (state : List ℕ) (i : ℕ) → Fits m state → Belongs m groups i k
-      → modeIn m groups k (modeNumber m groups k state) i ≡ getD state i 0
+  pub there-and-back : (modes : List ℕ) (i : ℕ) → Fits m modes → Belongs m groups i k
+      → modeIn m groups k (modeNumber m groups k modes) i ≡ getD modes i 0
   pub back-and-there : (p : ℕ) → p < size m groups k
       → modeNumber m groups k (map (modeIn m groups k p) (upTo (machineCount m))) ≡ p

@@ -9,7 +9,7 @@ use Rattle.sheet.specs.declared.record.Record.{Record}
 use Rattle.sheet.specs.declared.record.Record.the-variants.{Whole, Cut}
 use Rattle.sheet.specs.Record.{byte, recordAt, part}
 use Rattle.sheet.specs.Model.{Model, machineCount}
-use Rattle.plan.specs.Groups.{Grouping, groupOf, groupCount}
+use Rattle.plan.specs.Groups.{Grouping, groupOf, groupCount, movesOf}
 use Rattle.plan.specs.Modes.{size}
 use Rattle.plan.specs.Table.{Entry, entry}
 use Rattle.plan.specs.Bytes.{tableLength, tableAt, planLength}
@@ -75,3 +75,7 @@ unfoldable pub boundIn : Model → List ℕ → ℕ
 boundIn m plan =
     let at = tableAt m (groupsIn m plan) (groupCount (groupsIn m plan)) + 4 in
     byte plan at + 256 * byte plan (at + 1) + 65536 * byte plan (at + 2) + 16777216 * byte plan (at + 3)
+
+-- those moves of group k that count as naming other groups, under a plan: all of the group
+unfoldable pub counted : Model → List ℕ → ℕ → List ℕ
+counted m plan k = movesOf m (groupsIn m plan) k

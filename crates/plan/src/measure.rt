@@ -16,7 +16,7 @@ ghost use Rattle.sheet.specs.Kept.Indexed.{Indexed, Indexes};
 ghost use Rattle.plan.specs.Groups.{groupsOf};
 ghost use Rattle.plan.specs.Planning.{lengthReply};
 ghost use Rattle.plan.specs.Kept.Sizes.{SmallNumbers, CountsOf, firstLarge, entriesOf};
-ghost use Rattle.plan.specs.Answers.{measuredOf};
+ghost use Rattle.plan.specs.Says.{measuredOf};
 ghost use Rattle.plan.specs.Kept.Making.{lengthWith};
 
 // A plan.

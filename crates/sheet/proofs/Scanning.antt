@@ -29,6 +29,7 @@ pub record Scanned (s : List ℕ) (sheet : Sheet) (lives tops pairs commands : L
   pub bodies-in : sheet .bodies ≡ pad 250 (parsed .bodies)
   pub bodies-are : length (parsed .bodies) ≡ sheet .moves
   pub keyed : Keyed (parsed .model .moves) pairs commands
+  -- so where a body begins fits 16 bits
   pub near : at ≤ 6 * sheet .machines + 24 * sheet .moves
   pub leads : parse s ≡ parseFrom (283 - (sheet .machines + sheet .moves)) s at parsed
 

@@ -197,7 +197,7 @@ module _ {keys pairs commands : List ℕ} (h : Sent keys pairs commands) (pair c
         there = other-key (p .slot) o ∙ p .there;
       }
 
-  pub sent-more : Sent (keys ++ (key ∷ [])) pairs' commands'
+  sent-more : Sent (keys ++ (key ∷ [])) pairs' commands'
   sent-more =
       record {
         few = omega (arith, length-snoc keys key);

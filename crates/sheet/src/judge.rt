@@ -1,4 +1,4 @@
-// The causes 2 and 4 to 8 of one whole record, lowest number first.
+// The causes 2 and 4 to 8 of one whole record, lowest number first; a command that an earlier move has (8) is found in `sent`.
 use crate::bits::has_beyond;
 use crate::bits::has_mode;
 use crate::index::Machine;
@@ -192,7 +192,7 @@ fn judge_end(body: &[u8], machines: usize) -> Judged
     Judged::Fine
 }
 
-// A whole record, by its kind and the machines so far.
+// A whole record, by its kind and the machines so far; whether an earlier move has its command is not asked here.
 pub fn judge(kind: u16, body: &[u8], counts: Counts, tops: &[u8], live: &[u8]) -> Judged
     ensures { λ r. ⌜ ((m : Model) (at : ℕ) → Held m counts (now (tops .entry)) (now (live .entry))
         → judgedOf r at ≡ unless (ownFaults m at kind (now (body .entry))) fine) ⌝ }

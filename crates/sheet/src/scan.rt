@@ -32,6 +32,7 @@ pub fn read(s: &[u8]) -> Reading
     ensures index { λ r. ⌜ r .sheet ≡ sheetOf (parse (now (s .entry))) ⌝ }
 {
     let mut sheet = Sheet::empty();
+    // Apart from the index until the end, since they are lent at each record.
     let mut lives = [0u8; Sheet::MACHINES];
     // All modes of a machine as bits; none for a byte that names no machine.
     let mut tops = [0u8; 256];

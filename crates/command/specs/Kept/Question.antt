@@ -21,7 +21,7 @@ use Rattle.plan.specs.Bytes.{tableAt}
 use Rattle.plan.specs.Table.{Entry}
 use Rattle.plan.specs.Reading.{groupsIn, entryAt, wellShaped}
 use Rattle.plan.specs.Kept.Outline.{Outlined}
-use Rattle.plan.specs.Laws.{counted}
+use Rattle.plan.specs.Reading.{counted}
 use Rattle.plan.specs.declared.opening.Outline.{Outline}
 use Rattle.command.specs.State.{modeOf, stateFaults}
 use Rattle.command.specs.Goal.{Masks, anyMode, met, allowed}

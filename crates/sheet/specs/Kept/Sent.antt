@@ -9,7 +9,7 @@ use lib.ListN.{length, getD}
 use Rattle.common.specs.Lists.{any}
 use Rattle.sheet.specs.Model.{Move}
 
--- a move's machine, from mode and command as one two-byte number
+-- a move's machine, from mode and command as one two-byte number; nothing is cut off where the move is `Small`
 unfoldable pub keyOf : Move → ℕ
 keyOf v = (2048 * v .machine + 256 * v .from + v .command) % 65536
 
@@ -19,7 +19,7 @@ pub record Small (v : Move) : Type 0 where
   pub from : v .from < 8
   pub command : v .command < 256
 
--- a key's own slot
+-- a key's own slot: bits 23 to 31 of its product with 2 ^ 32 over the golden ratio
 unfoldable pub slotOf : ℕ → ℕ
 slotOf key = key * 2654435761 / 8388608 % 512
 
