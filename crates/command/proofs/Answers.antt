@@ -20,8 +20,8 @@ use Rattle.command.specs.State.{modeOf, withMode}
 use Rattle.command.specs.Goal.{goalFaults}
 use Rattle.command.specs.Goal.{goalMasks}
 use Rattle.command.specs.Attainable.{attainFaults}
-use Rattle.command.specs.Covered.{Covered}
-use Rattle.command.specs.Next.{done, command, fulfil, goalRefusals}
+use Rattle.command.specs.Covered.{Covered, Admitted}
+use Rattle.command.specs.Next.{done, command, fulfil}
 use Rattle.command.specs.Method.{entryMove, PicksFor}
 use Rattle.command.specs.Apply.{Answers, applyReply, effectReply}
 use Rattle.command.specs.Run.{Lent, askReply, some, Situation, begins}
@@ -33,7 +33,8 @@ use Rattle.command.proofs.Shape.{state-sound}
 use Rattle.command.proofs.Wished.{met-wished, wished-met}
 use Rattle.command.proofs.Sends
 use Rattle.command.proofs.Sends.{Sends}
-use Rattle.command.proofs.Asking.{done-not-command, refusals-parts, next-fulfils}
+use Rattle.command.proofs.Asking.{done-not-command, next-fulfils}
+use Rattle.command.proofs.TurnedDown.{state-passes}
 use Rattle.command.proofs.Targets.{goal-leaves}
 use Rattle.command.proofs.Picked.{picks-move}
 use Rattle.command.proofs.Kept
@@ -57,16 +58,15 @@ module _ {lent : Lent} {d : Parsed} {Usable : ℕ → Type 0} {longest cost : �
       Facts.covered-exactly (d .model) (ground .valid) (lent .plan) (tables .shaped) (tables .byte-entries) state sound _
 
   -- a run begins kept
-  pub kept-begins : (state : List ℕ) → clear (goalRefusals (d .model) (lent .plan) state (lent .goal)) ≡ true
+  pub kept-begins : (state : List ℕ) → Admitted (d .model) (lent .plan) state (lent .goal)
       → Kept (d .model) lent Usable cost (begins state)
-  kept-begins state h =
-      let parts = refusals-parts (d .model) (lent .plan) state (lent .goal) h in
-      let sound = Facts.sound-state (d .model) state (parts .0) in
-      let covered = covers state sound .0 (parts .2) in
+  kept-begins state a =
+      let sound = Facts.sound-state (d .model) state (state-passes (d .model) state .1 (a .state-fits)) in
+      let bounded = toCome-bounded (d .model) lent (ground .valid) (ground .laws) (begins state) sound (a .covered) in
       record {
         sound = sound;
-        covered = covered;
-        within = omega (arith, toCome-bounded (d .model) lent (ground .valid) (ground .laws) (begins state) sound covered);
+        covered = a .covered;
+        within = omega (arith, bounded);
         pends = λ i c e. absurd (let z : _≡_ {A = ℕ} 0 1 = cc in let f : ⊥ = omega arith in f);
       }
 

@@ -174,4 +174,4 @@ pub applies-right : AppliesRight
 applies-right = apply-right
 
 pub state-left : (sheet state : List ℕ) (machine command : ℕ) → StateLeft sheet state machine command
-state-left sheet state machine command = record { written = λ a e. rw e; kept = λ n p e. rw e }
+state-left sheet state machine command = record { written = λ a e. rw e; kept = λ n p e. (rw e, rw e) }

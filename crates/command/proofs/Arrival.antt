@@ -3,20 +3,19 @@
 use Prim.Native.Nat.{ℕ, _≤_}
 use mathlib.Core.Path.{_≡_, sym, subst}
 use mathlib.Core.List.{List, [], _∷_, _++_, append-nil}
-use mathlib.Core.Bool.{true}
 use native.Mathlib.Omega.{arith}
-use Rattle.common.specs.Reply.{given, clear}
+use Rattle.common.specs.Reply.{given}
 use Rattle.sheet.specs.Valid.{Valid}
 use Rattle.sheet.specs.Parse.{Parsed, parse}
 use Rattle.plan.specs.Reading.{boundIn}
 use Rattle.plan.specs.Laws.{PlanLaws}
 use Rattle.command.specs.State.{tagOf}
-use Rattle.command.specs.Next.{goalRefusals}
+use Rattle.command.specs.Covered.{Admitted}
 use Rattle.command.specs.Run.{Lent, Call, ask, apply, Situation, begins, afterAll, Run}
 use Rattle.sheet.proofs.Parsed.{parse-valid}
 use Rattle.plan.proofs.Planned.{planned-lawful}
 use Rattle.command.specs.Arrival.{Arrival, ArrivalOfLaws, AsWishedFrom, Reached, Asked, Moved, Promise}
-use Rattle.command.proofs.Asking.{refusals-parts}
+use Rattle.command.proofs.TurnedDown.{goal-passes}
 use Rattle.command.proofs.Kept.{Kept}
 use Rattle.command.proofs.Answers
 use Rattle.command.proofs.Answers.{Ground}
@@ -25,14 +24,14 @@ use Rattle.command.proofs.Calls.{Keeps, pending-some, afterAll-append}
 
 module _ {lent : Lent} {d : Parsed} {Usable : ℕ → Type 0} {longest cost : ℕ → ℕ}
     (ground : Ground lent d Usable longest cost) (state : List ℕ)
-    (passes : clear (goalRefusals (d .model) (lent .plan) state (lent .goal)) ≡ true) (calls : List Call)
+    (admitted : Admitted (d .model) (lent .plan) state (lent .goal)) (calls : List Call)
     (run : Run lent (begins state) calls) where
   -- the situation after some calls from the beginning
   abbrev now : List Call → Situation
   now before = afterAll lent (begins state) before
 
   start : Kept (d .model) lent Usable cost (begins state)
-  start = Answers.kept-begins ground state passes
+  start = Answers.kept-begins ground state admitted
 
   through : (before later : List Call) → calls ≡ before ++ later
       → Keeps (d .model) lent Usable cost (begins state) (now before)
@@ -87,23 +86,23 @@ pub arrival-of-laws :
     (lent : Lent) (state : List ℕ) (d : Parsed) (Usable : ℕ → Type 0) (longest cost : ℕ → ℕ)
     → parse (lent .sheet) ≡ given d → Valid (d .model)
     → PlanLaws (d .model) (lent .plan) Usable longest cost
-    → clear (goalRefusals (d .model) (lent .plan) state (lent .goal)) ≡ true
+    → Admitted (d .model) (lent .plan) state (lent .goal)
     → (calls : List Call) → Run lent (begins state) calls
     → Promise lent (d .model) (begins state) calls
-arrival-of-laws lent state d Usable longest cost parsed valid laws passes calls run =
+arrival-of-laws lent state d Usable longest cost parsed valid laws admitted calls run =
     promised (record {
       parsed = parsed;
       valid = valid;
       laws = laws;
-      fine = refusals-parts (d .model) (lent .plan) state (lent .goal) passes .1;
-    }) state passes calls run
+      fine = goal-passes (d .model) (lent .goal) .1 (admitted .goal-fits);
+    }) state admitted calls run
 
 -- demand 3, of the plan that planning wrote
 pub arrival : Arrival
-arrival lent state buffer scratch d calls parsed planned passes run =
+arrival lent state buffer scratch d calls parsed planned admitted run =
     arrival-of-laws lent state d _ _ _ parsed (parse-valid (lent .sheet) parsed)
-    (planned-lawful (lent .sheet) (lent .plan) buffer scratch d parsed planned) passes calls run
+    (planned-lawful (lent .sheet) (lent .plan) buffer scratch d parsed planned) admitted calls run
 
 pub arrival-by-laws : ArrivalOfLaws
-arrival-by-laws lent state d usable longest cost calls parsed laws passes run =
-    arrival-of-laws lent state d _ longest cost parsed (parse-valid (lent .sheet) parsed) laws passes calls run
+arrival-by-laws lent state d usable longest cost calls parsed laws admitted run =
+    arrival-of-laws lent state d _ longest cost parsed (parse-valid (lent .sheet) parsed) laws admitted calls run

@@ -1,6 +1,7 @@
 pub mod Acted
 pub mod ActingLoops
 pub mod Acts
+pub mod Admitted
 pub mod AllowedGroups
 pub mod Ancestry
 pub mod Answers
@@ -35,6 +36,7 @@ pub mod Moving
 pub mod Naming
 pub mod Near
 pub mod NearestLoop
+pub mod OneRefusal
 pub mod Opening
 pub mod Picked
 pub mod Placing

@@ -9,22 +9,23 @@ use native.Mathlib.Nat.{not-suc-le-zero}
 use native.Mathlib.Omega.{arith}
 use borrow.Author.Tests.{eqb-true, eqb-false}
 use lib.Dec.{eqb}
-use Rattle.common.specs.Reply.{Reply, given, refused}
+use Rattle.common.specs.Reply.{Reply, given, refused, clear}
 use Rattle.common.proofs.Reply.{given-not-refused}
 use Rattle.common.proofs.Bools.{by-cases, true-false, true-of-not-false}
 use Rattle.common.proofs.Least.{last-or-below}
 use Rattle.sheet.specs.Model.{Model, moveCount, moveAt}
 use Rattle.sheet.specs.Valid.{Valid}
+use Rattle.sheet.specs.Parse.{Parsed, parse}
 use Rattle.sheet.proofs.Parsed.{parse-valid}
 use Rattle.plan.specs.Groups.{groupOf}
 use Rattle.plan.specs.Reading.{groupsIn, wellShaped}
-use Rattle.command.specs.State.{modeOf, tagOf}
-use Rattle.command.specs.Goal.{Masks, met}
-use Rattle.command.specs.Attainable.{groups}
+use Rattle.command.specs.State.{modeOf, tagOf, stateFaults}
+use Rattle.command.specs.Goal.{Masks, goalFaults, goalMasks, met}
+use Rattle.command.specs.Attainable.{groups, attainFaults}
 use Rattle.command.specs.Next.{Next, done, command, targetOf, holdsOutside, unfit, prepareBy, followBy, fulfil}
 use Rattle.command.specs.Apply.{Answers}
 use Rattle.command.specs.Method.{Pick, noneUnmet, unfitEntry, entryMove, pickReply}
-use Rattle.command.specs.Method.{HighestUnmet, Target, entryToward, moveToward, Fit, MethodFollowed}
+use Rattle.command.specs.Method.{HighestUnmet, Target, entryToward, moveToward, Fit, MethodRight, MethodFollowed}
 use Rattle.command.specs.Method.{Picks, nothing-unmet, unfit as held-up, sends, prepares}
 use Rattle.command.proofs.Following
 use Rattle.command.proofs.Fitness.{fit-test, test-fit, ready-test, test-ready, waits-test, test-waits}
@@ -32,7 +33,9 @@ use Rattle.command.proofs.Targets.{LeavesModes, goal-leaves, needs-leav
 use Rattle.command.proofs.Targets.{target-right, target-only}
 use Rattle.command.proofs.Shape.{sound-state}
 use Rattle.command.proofs.Untagged.{picked-untagged}
-use Rattle.command.proofs.Asking.{done-not-command, refusals-parts, next-fulfils}
+use Rattle.command.proofs.Asking.{done-not-command, next-fulfils}
+use Rattle.command.proofs.Shown.{bytes-small}
+use Rattle.command.proofs.Admitted.{admitted-passes}
 
 module _ (m : Model) (plan state : List ℕ) where
   -- What the method picks is replied
@@ -201,19 +204,28 @@ module _ (m : Model) (plan state : List ℕ) where
         starts : Starts v
         starts = record { listed = a .there; from-now = a .its-from; answers = λ free. a }
 
+-- where 13, 14 and 16 to 18 pass
+module _ (sheet plan state goal : List ℕ) (d : Parsed) (parsed : parse sheet ≡ given d) (shaped : wellShaped (d .model) plan ≡ true)
+    (state-good : clear (stateFaults (d .model) state) ≡ true) (goal-good : clear (goalFaults (d .model) goal) ≡ true)
+    (covers : clear (attainFaults (d .model) plan state (goalMasks (d .model) goal)) ≡ true) where
+  pub method-right : MethodRight (d .model) sheet plan state goal
+  method-right =
+      let m = d .model in
+      let valid = parse-valid sheet parsed in
+      let (p, picks) = picks-some m plan state valid shaped _ _ (goal-leaves m valid goal goal-good) in
+      record {
+        pick = p;
+        picked = picks;
+        alone = λ q h. picks-one m plan state valid h picks;
+        replied =
+            next-fulfils sheet plan state goal d parsed shaped state-good goal-good covers
+            ∙ picks-replied m plan state picks;
+        answers = λ v h. picked-starts m plan state h .answers
+            (picked-untagged m valid plan shaped state (sound-state m state state-good) _ covers v h);
+      }
+
 pub method-followed : MethodFollowed
-method-followed sheet plan state goal d parsed shaped passes =
-    let m = d .model in
-    let valid = parse-valid sheet parsed in
-    let parts = refusals-parts m plan state goal passes in
-    let (p, picks) = picks-some m plan state valid shaped _ _ (goal-leaves m valid goal (parts .1)) in
-    record {
-      pick = p;
-      picked = picks;
-      alone = λ q h. picks-one m plan state valid h picks;
-      replied =
-          next-fulfils sheet plan state goal d parsed shaped (parts .0) (parts .1) (parts .2)
-          ∙ picks-replied m plan state picks;
-      answers = λ v h. picked-starts m plan state h .answers
-          (picked-untagged m valid plan shaped state (sound-state m state (parts .0)) _ (parts .2) v h);
-    }
+method-followed sheet plan state goal d parsed shaped bytes admitted =
+    let small = bytes-small (d .model) plan bytes in
+    let parts = admitted-passes (d .model) (parse-valid sheet parsed) plan shaped small state goal admitted in
+    method-right sheet plan state goal d parsed shaped (parts .0) (parts .1) (parts .2)

@@ -18,12 +18,15 @@ use Rattle.plan.specs.Reading.{wellShaped}
 use Rattle.command.specs.Goal.{Masks, met}
 use Rattle.common.specs.Lists.{downTo}
 use Rattle.command.specs.Attainable.{groups, groupFaults, attainFaults}
-use Rattle.command.specs.Uncovered.{Uncovered, UncoveredRefused}
+use Rattle.command.specs.Uncovered.{Uncovered, RefusedSo, UncoveredRefused}
 use Rattle.command.proofs.Shape.{Sound, sound-state}
 use Rattle.command.proofs.Highest.{Highest, find-down, downTo-below, unless-highest}
 use Rattle.command.proofs.Shown.{Small, bytes-small}
 use Rattle.command.proofs.Causes.{group-because, clear-passes}
 use Rattle.command.proofs.Asking.{next-reply}
+use Rattle.command.proofs.TurnedDown.{state-passes, goal-passes}
+use Rattle.command.proofs.Admitted.{passes-admitted}
+use Rattle.command.proofs.OneRefusal.{uncovered-one}
 
 module _ (m : Model) (plan state : List ℕ) (masks : Masks) where
   abbrev count : ℕ
@@ -42,27 +45,31 @@ module _ (m : Model) (plan state : List ℕ) (masks : Masks) where
   -- the highest-numbered unmet group that has a cause refuses
   module _ (valid : Valid m) (shaped : wellShaped m plan ≡ true) (small : Small m plan) (sound : Sound m state) where
     by-top : {A : Type 0} (r : Reply A) (k : ℕ) → Highest (λ k. not (clear (causesOf k))) count k
-        → Uncovered m plan state masks (unless (attainFaults m plan state masks) r)
+        → RefusedSo m plan state masks (unless (attainFaults m plan state masks) r)
     unfolding attainFaults
     by-top r k top =
         let some : clear (causesOf k) ≡ false = not-true _ (top .has) in
         let unmet = causes-unmet k some in
         let b = group-because m plan state masks valid shaped small sound k r (top .below)
         (sym (ap clear (causes-are k unmet)) ∙ some) in
-        record {
+        let due : Uncovered m plan state masks (b .0) (b .1) = record {
           group = k;
           below = top .below;
           unmet = unmet;
           higher-pass = λ b l h f. clear-passes m plan state masks valid shaped small sound b h
               (sym (ap clear (causes-are b f)) ∙ not-false _ (top .none-above b l h));
+          because = b .2;
+        } in
+        record {
           number = b .0;
           place = b .1;
-          because = b .2;
+          uncovered = due;
+          alone = λ n p other. uncovered-one m plan state masks other due;
           refuses = unless-highest causesOf count r top ∙ (ap (λ fs. unless fs r) (causes-are k unmet) ∙ b .3);
         }
 
     attain-refuses : {A : Type 0} (r : Reply A) → clear (attainFaults m plan state masks) ≡ false
-        → Uncovered m plan state masks (unless (attainFaults m plan state masks) r)
+        → RefusedSo m plan state masks (unless (attainFaults m plan state masks) r)
     unfolding attainFaults
     attain-refuses r h =
         ⊎-elim
@@ -73,8 +80,12 @@ module _ (m : Model) (plan state : List ℕ) (masks : Masks) where
         (find-down (λ k. not (clear (causesOf k))) count count)
 
 pub uncovered : UncoveredRefused
-uncovered sheet plan state goal d parsed shaped bytes state-good goal-good fails =
+uncovered sheet plan state goal d parsed shaped bytes state-fits goal-fits fails =
     let m = d .model in
-    rw (next-reply sheet plan state goal d parsed shaped state-good goal-good)
-    (attain-refuses m plan state _ (parse-valid sheet parsed) shaped (bytes-small m plan bytes)
-    (sound-state m state state-good) _ fails)
+    let valid = parse-valid sheet parsed in
+    let small = bytes-small m plan bytes in
+    let fits = state-passes m state .1 state-fits in
+    let fine = goal-passes m goal .1 goal-fits in
+    rw (next-reply sheet plan state goal d parsed shaped fits fine)
+    (attain-refuses m plan state _ valid shaped small (sound-state m state fits) _
+    (false-of-not-true (λ t. fails (passes-admitted m valid plan shaped small state goal fits fine t))))

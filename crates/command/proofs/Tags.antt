@@ -16,8 +16,8 @@ use Rattle.command.specs.Next.{command, nextReply}
 use Rattle.command.specs.Method.{Pick, noneUnmet, unfitEntry, entryMove, pickReply, MethodRight, PicksFor}
 use Rattle.command.specs.Tags.{LaidOut, NeverTagged}
 use Rattle.command.proofs.States.{mode-place, tag-place}
-use Rattle.command.proofs.Asking.{done-not-command, misshapen-reply, shaped-reply}
-use Rattle.command.proofs.Picked.{method-followed}
+use Rattle.command.proofs.Asking.{done-not-command, refusals-parts, misshapen-reply, shaped-reply}
+use Rattle.command.proofs.Picked.{method-right}
 
 pub laid-out : LaidOut
 laid-out state i = (mode-place state i, tag-place state i)
@@ -40,5 +40,6 @@ never-tagged sheet plan state goal i c e =
     (by-cases (wellShaped (d .model) plan)
     (λ shaped.
     let covered = given-clear _ _ (sym (shaped-reply sheet plan state goal d parses shaped) ∙ e) in
-    picked-free d i c (method-followed sheet plan state goal d parses shaped (each-clear _ covered)) _ refl e)
+    let (fits, fine, covers) = refusals-parts (d .model) plan state goal (each-clear _ covered) in
+    picked-free d i c (method-right sheet plan state goal d parses shaped fits fine covers) _ refl e)
     (λ f. absurd (given-not-refused (sym e ∙ misshapen-reply sheet plan state goal d parses f))))

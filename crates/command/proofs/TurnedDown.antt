@@ -12,10 +12,10 @@ use Rattle.common.specs.Lists.{upTo, any, find}
 use Rattle.common.specs.Reply.{Reply, given, refused, Fault, fault, unless, andThen}
 use Rattle.common.proofs.Bits.{beyond-small, small-beyond}
 use Rattle.common.proofs.Bools.{or-false-left, or-false-right, or-false-intro}
-use Rattle.common.proofs.Bools.{true-of-not-false, false-of-not-true, not-of-true, not-of-false}
+use Rattle.common.proofs.Bools.{true-false, true-of-not-false, false-of-not-true, not-of-true, not-of-false}
 use Rattle.common.proofs.Lists.{any-intro, any-none, any-fails}
 use Rattle.common.proofs.Members.{upTo-mem, upTo-below}
-use Rattle.common.proofs.Search.{find-upTo-is}
+use Rattle.common.proofs.Search.{find-holds, find-upTo-below, find-upTo-before, find-upTo-is}
 use Rattle.common.proofs.Reply.{unless-first, unless-later}
 use Rattle.common.proofs.Clear.{clear-each, each-clear, unless-append-clear}
 use Rattle.sheet.specs.Record.{byte}
@@ -32,7 +32,7 @@ use Rattle.command.specs.Attainable.{attainFaults}
 use Rattle.command.specs.Next.{fulfil, goalRefusals, nextReply}
 use Rattle.command.specs.Apply.{applyReply}
 use Rattle.command.specs.TurnedDown.{Present, Sensible, StateFits, StatePasses, GoalPasses, FirstWrong}
-use Rattle.command.specs.TurnedDown.{TurnedDown, SheetBefore}
+use Rattle.command.specs.TurnedDown.{FirstFound, TurnedDown, SheetBefore}
 use Rattle.command.proofs.States.{mode-place, tag-place}
 use Rattle.command.proofs.Shape.{sound-state, state-sound}
 use Rattle.command.proofs.Applying.{apply-reply}
@@ -101,6 +101,26 @@ first-wrong-refuses number p n rest r exactly {i} first =
     let wrong : p i ≡ true = true-of-not-false (λ f. first .wrong (exactly i .0 f)) in
     unless-first _ rest r (any-intro p (upTo-mem (first .below)) wrong)
     ∙ ap (refused number) (find-upTo-is p 0 i (first .below) wrong (λ j l. exactly j .1 (first .before j l)))
+
+-- where some machine of n is wrong, there is a first
+some-first : (p : ℕ → Bool) {Right : ℕ → Type 0} (n : ℕ) → ((i : ℕ) → (p i ≡ false) ↔ Right i)
+    → (((i : ℕ) → i < n → Right i) → ⊥) → (i : ℕ) × FirstWrong Right n i
+some-first p n exactly fails =
+    let some : any p (upTo n) ≡ true = true-of-not-false (λ f. fails (λ i l. exactly i .0 (any-none p f (upTo-mem l)))) in
+    let i = find p (upTo n) 0 in (
+      i,
+      record {
+        below = find-upTo-below p n 0 some;
+        wrong = λ r. true-false (find-holds p (upTo n) 0 some) (exactly i .1 r);
+        before = λ j l. exactly j .0 (find-upTo-before p n 0 some j l);
+      },
+    )
+
+pub first-found : FirstFound
+first-found m bytes = (
+  λ e fails. some-first (badPair m bytes) (machineCount m) (present-exactly m bytes) (λ each. fails (e, each)),
+  λ l fails. some-first (badByte m bytes) (length bytes) (sensible-exactly m bytes) (λ each. fails (l, each)),
+)
 
 -- 13, with other causes behind it
 module _ {A : Type 0} (m : Model) (state : List ℕ) (rest : List Fault) (r : Reply A) where

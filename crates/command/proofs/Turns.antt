@@ -67,6 +67,7 @@ turns-right sheet state goal =
       begins = λ buffer h. ap (afterPlanning sheet state goal) (enough sheet buffer (lengthReply sheet) h);
       long-enough = λ n e. length-most sheet e;
       goes-on = λ plan bound n count. obey-turn sheet plan goal bound n count state _ refl;
+      kept = λ plan i p e. (rw e, rw e);
     }
 
 -- One turn

@@ -8,19 +8,23 @@ use native.Mathlib.Numerals.{add-one}
 use native.Mathlib.Omega.{arith}
 use Rattle.common.specs.Reply.{Reply, given, refused, clear, andThen}
 use Rattle.common.proofs.Bools.{by-cases, true-false}
-use Rattle.common.proofs.Reply.{unless-clear, given-clear}
+use Rattle.common.proofs.Reply.{unless-clear, given-clear, given-not-refused}
 use Rattle.common.proofs.Clear.{clear-each, each-clear}
 use Rattle.sheet.specs.Parse.{Parsed, parse}
 use Rattle.plan.specs.Planning.{planReply}
 use Rattle.plan.specs.Reading.{boundIn}
+use Rattle.plan.proofs.Planned.{planned-lawful}
+use Rattle.sheet.proofs.Parsed.{parse-valid}
 use Rattle.command.specs.Next.{Next, done, command, nextReply, goalRefusals}
+use Rattle.command.specs.Covered.{Admitted}
 use Rattle.command.specs.Apply.{actingMove, stateBy, Applied, applyReply, stateAfter}
 use Rattle.command.specs.Run.{Lent, lend, askReply, Call, ask, apply, none, Situation, begins, pendingOf, IsPending, appliedBy}
 use Rattle.command.specs.Run.{after, afterAll, Run}
-use Rattle.command.specs.Walk.{Turn, over, obeyed, obeyReply, turnBy, turnReply, obey, walkLines}
+use Rattle.command.specs.Walk.{Line, Turn, over, obeyed, obeyReply, turnBy, turnReply, obey, walkLines}
 use Rattle.command.specs.Walking.{turnTold, turnLeaves, linesBy}
 use Rattle.command.specs.Walked.{Obeys, arrived, halted, went, WalksRight}
-use Rattle.command.proofs.Asking.{refusals-parts}
+use Rattle.command.proofs.Asking.{done-not-command, refusals-parts}
+use Rattle.command.proofs.Admitted.{passes-admitted}
 use Rattle.command.proofs.Calls.{afterAll-append}
 use Rattle.command.proofs.Arrival.{arrival}
 
@@ -109,7 +113,7 @@ module _ (sheet plan goal : List ℕ) (d : Parsed) (parsed : parse sheet ≡ giv
 
   -- a run gives a command only while fewer were applied than the bound, so as many turns and one suffice
   module _ (buffer scratch : ℕ) (planned : planReply sheet buffer scratch ≡ given plan) (state : List ℕ)
-      (covered : clear (goalRefusals (d .model) plan state goal) ≡ true) where
+      (admitted : Admitted (d .model) plan state goal) where
     abbrev now : List Call → Situation
     now before = afterAll (lend sheet plan goal) (begins state) before
 
@@ -117,7 +121,7 @@ module _ (sheet plan goal : List ℕ) (d : Parsed) (parsed : parse sheet ≡ giv
         → nextReply sheet plan (now before .state) goal ≡ given (command i c) → now before .applied < bound
     below-bound before run i c e =
         let asks = run-append (lend sheet plan goal) (begins state) before (ask ∷ []) run (tt, tt) in
-        arrival (lend sheet plan goal) state buffer scratch d (before ++ (ask ∷ [])) parsed planned covered asks
+        arrival (lend sheet plan goal) state buffer scratch d (before ++ (ask ∷ [])) parsed planned admitted asks
         .asking before [] refl .within-bound i c e
 
     obeys : (n : ℕ) (before : List Call) → Run (lend sheet plan goal) (begins state) before → now before .applied ≤ bound
@@ -139,10 +143,34 @@ module _ (sheet plan goal : List ℕ) (d : Parsed) (parsed : parse sheet ≡ giv
       → Right (suc bound) (begins state)
   unfolding afterAll
   walks buffer scratch planned state =
+      let tables = planned-lawful sheet plan buffer scratch d parsed planned .tables in
+      let parts = refusals-parts (d .model) plan state goal in
       by-cases (clear (goalRefusals (d .model) plan state goal))
-      (λ t. obeys buffer scratch planned state t (suc bound) [] tt zero-le (omega arith))
+      (λ t. obeys buffer scratch planned state
+      (passes-admitted (d .model) (parse-valid sheet parsed) plan (tables .shaped) (tables .byte-entries) state goal
+      (parts t .0) (parts t .1) (parts t .2))
+      (suc bound) [] tt zero-le (omega arith))
       (λ f. step bound (begins state) (nextReply sheet plan state goal) refl (λ i c e.
       absurd (true-false (passes state e) f)))
+
+-- no other lines are those of obeying
+module _ (sheet plan goal : List ℕ) (bound : ℕ) where
+  obeys-one : {count : ℕ} {state : List ℕ} {a b : List Line} → Obeys sheet plan goal bound count state a
+      → Obeys sheet plan goal bound count state b → a ≡ b
+  obeys-one (arrived e) (arrived f) = refl
+  obeys-one (arrived e) (halted f) = absurd (given-not-refused (sym e ∙ f))
+  obeys-one (arrived e) (went a f g rest) = absurd (done-not-command (sym e ∙ f))
+  obeys-one (halted e) (arrived f) = absurd (given-not-refused (sym f ∙ e))
+  obeys-one (halted e) (halted f) = cc
+  obeys-one (halted e) (went a f g rest) = absurd (given-not-refused (sym f ∙ e))
+  obeys-one (went a e g rest) (arrived f) = absurd (done-not-command (sym f ∙ e))
+  obeys-one (went a e g rest) (halted f) = absurd (given-not-refused (sym e ∙ f))
+  obeys-one (went {i = i} {c} a e g rest) (went {i = j} {c = k} b f h more) =
+      let same-machine : i ≡ j = cc in
+      let same-byte : c ≡ k = cc in
+      let same : b ≡ a = cc in
+      let later = obeys-one rest (rw same at more) in
+      cc
 
 pub walks-right : WalksRight
 unfolding walkLines andThen
@@ -151,4 +179,6 @@ walks-right sheet state goal =
       unmeasured = λ n p e. rw e;
       unplanned = λ n p k e q. rw (e, q);
       obeyed = λ k plan d e q parsed. rw (e, q, parsed) (walks sheet plan goal d parsed k 512 q state);
+      alone = λ k plan d lines e q parsed o.
+          rw (e, q, parsed) (obeys-one sheet plan goal _ o (walks sheet plan goal d parsed k 512 q state));
     }

@@ -44,9 +44,10 @@ AppliesRight =
     (sheet state : List ℕ) (machine command : ℕ) (d : Parsed) → parse sheet ≡ given d
     → clear (stateFaults (d .model) state) ≡ true → ApplyRight (d .model) sheet state machine command
 
--- What applying leaves in the lent state: what it replied, or all as it was.
+-- What applying leaves in the lent state: what it replied, or all as it was, the refusal being told.
 pub record StateLeft (sheet state : List ℕ) (machine command : ℕ) : Type 0 where
   pub written : (a : Applied) → applyReply sheet state machine command ≡ given a
       → stateAfter (applyReply sheet state machine command) state ≡ a .state
   pub kept : (n p : ℕ) → applyReply sheet state machine command ≡ refused n p
-      → stateAfter (applyReply sheet state machine command) state ≡ state
+      → (stateAfter (applyReply sheet state machine command) state ≡ state)
+      × (effectReply (applyReply sheet state machine command) ≡ refused n p)

@@ -4,7 +4,7 @@ use mathlib.Core.Path.{_≡_}
 use mathlib.Core.Logic.{_↔_}
 use mathlib.Core.List.{List, _∷_, _++_}
 use mathlib.Core.Bool.{Bool, true}
-use Rattle.common.specs.Reply.{given, clear}
+use Rattle.common.specs.Reply.{given}
 use Rattle.sheet.specs.Model.{Model, machineCount, moveCount, moveAt}
 use Rattle.sheet.specs.Parse.{Parsed, parse}
 use Rattle.plan.specs.Groups.{groupOf, groupCount}
@@ -13,7 +13,8 @@ use Rattle.plan.specs.Planning.{planReply}
 use Rattle.plan.specs.Reading.{groupsIn, boundIn}
 use Rattle.command.specs.State.{modeOf, tagOf, withMode}
 use Rattle.command.specs.Meaning.{MachineMeets}
-use Rattle.command.specs.Next.{Next, done, command, goalRefusals}
+use Rattle.command.specs.Next.{Next, done, command}
+use Rattle.command.specs.Covered.{Admitted}
 use Rattle.command.specs.Method.{entryMove, PicksFor}
 use Rattle.command.specs.Apply.{Answers, applyReply, effectReply}
 use Rattle.command.specs.Run.{Lent, askReply, Call, ask, apply, some, Situation, begins, afterAll, Run}
@@ -81,14 +82,14 @@ module _ (lent : Lent) (m : Model) where
     pub tags-stay : (before later : List Call) → calls ≡ before ++ later → (i : ℕ)
         → tagOf (afterAll lent start before .state) i ≡ tagOf (start .state) i
 
--- With a sheet and the plan that planning wrote for it, and a state and goal for which none of 13, 14 and 16 to 18 applies,
--- every list of calls that is a run keeps the promise.
+-- With a sheet and the plan that planning wrote for it, and a state and goal that pass 13 and 14, the goal covered, every list of
+-- calls that is a run keeps the promise.
 abbrev pub Arrival : Type 0
 Arrival =
     (lent : Lent) (state : List ℕ) (buffer scratch : ℕ) (d : Parsed) (calls : List Call)
     → parse (lent .sheet) ≡ given d
     → planReply (lent .sheet) buffer scratch ≡ given (lent .plan)
-    → clear (goalRefusals (d .model) (lent .plan) state (lent .goal)) ≡ true
+    → Admitted (d .model) (lent .plan) state (lent .goal)
     → Run lent (begins state) calls
     → Promise lent (d .model) (begins state) calls
 
@@ -98,6 +99,6 @@ ArrivalOfLaws =
     (lent : Lent) (state : List ℕ) (d : Parsed) (usable : ℕ → Bool) (longest cost : ℕ → ℕ) (calls : List Call)
     → parse (lent .sheet) ≡ given d
     → PlanLaws (d .model) (lent .plan) (λ v. usable v ≡ true) longest cost
-    → clear (goalRefusals (d .model) (lent .plan) state (lent .goal)) ≡ true
+    → Admitted (d .model) (lent .plan) state (lent .goal)
     → Run lent (begins state) calls
     → Promise lent (d .model) (begins state) calls

@@ -96,7 +96,8 @@ idle = tagless (0 ∷ 0 ∷ [])
 abbrev pub stoveCalls : List Call
 stoveCalls =
     ask ∷ apply ∷ refusedNext (lend [] [] []) ∷ ask ∷ ask ∷ refusedApply (0 ∷ []) 1 1 ∷ apply
-    ∷ refusedNext (lend stove [] (1 ∷ [])) ∷ ask ∷ apply ∷ ask ∷ apply ∷ ask ∷ ask ∷ []
+    ∷ refusedNext (lend stove [] (1 ∷ [])) ∷ ask ∷ refusedNext (lend stove (ownPlan (modelIn stove)) (0 ∷ [])) ∷ apply
+    ∷ ask ∷ apply ∷ ask ∷ ask ∷ []
 
 abbrev pub cases : List Row
 cases =
@@ -247,4 +248,4 @@ cases-hold =
     ⊗ refl ⊗ refl ⊗ refl ⊗ refl ⊗ refl ⊗ refl ⊗ refl ⊗ refl ⊗ refl ⊗ refl
     ⊗ refl ⊗ refl ⊗ refl ⊗ refl ⊗ refl ⊗ refl ⊗ refl ⊗ refl ⊗ refl ⊗ refl ⊗ refl
     ⊗ (refl, refl, refl, tt ⊗ tt ⊗ tt ⊗ tt, refl)
-    ⊗ (refl, refl, refl, tt ⊗ tt ⊗ tt ⊗ tt ⊗ tt ⊗ tt ⊗ tt ⊗ tt ⊗ tt ⊗ tt ⊗ tt ⊗ tt ⊗ tt ⊗ tt ⊗ tt, refl) ⊗ tt
+    ⊗ (refl, refl, refl, tt ⊗ tt ⊗ tt ⊗ tt ⊗ tt ⊗ tt ⊗ tt ⊗ tt ⊗ tt ⊗ tt ⊗ tt ⊗ tt ⊗ tt ⊗ tt ⊗ tt ⊗ tt, refl) ⊗ tt

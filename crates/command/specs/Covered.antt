@@ -1,4 +1,4 @@
--- "Covered", stated: what it means that none of 16, 17 and 18 applies to a goal.
+-- "Covered", stated: what it means that none of 16, 17 and 18 applies to a goal; and what a run may begin with.
 use Prim.Native.Nat.{ℕ, _<_}
 use mathlib.Core.Path.{_≡_}
 use mathlib.Core.Logic.{_↔_}
@@ -13,9 +13,10 @@ use Rattle.plan.specs.Modes.{size}
 use Rattle.plan.specs.Laws.{Connects}
 use Rattle.plan.specs.Reading.{groupsIn, wellShaped}
 use Rattle.command.specs.State.{stateFaults}
-use Rattle.command.specs.Goal.{Masks, met, allowed}
+use Rattle.command.specs.Goal.{Masks, goalMasks, met, allowed}
 use Rattle.command.specs.Ancestors.{upstreamIn}
 use Rattle.command.specs.Attainable.{groups, present, liveGroup, attainFaults}
+use Rattle.command.specs.TurnedDown.{StateFits, GoalFits}
 
 module _ (m : Model) (plan : List ℕ) (masks : Masks) where
   -- from mode p of group k the plan shows a route to an allowed mode
@@ -40,6 +41,12 @@ module _ (m : Model) (plan : List ℕ) (masks : Masks) (state : List ℕ) where
     -- not 18: the groups upstream of an unmet group are safe
     pub no-dead-end : (k a : ℕ) → k < n → met (groups m plan) masks state k ≡ false
         → upstreamIn m plan k a ≡ true → Safe m plan masks a (present m plan state a)
+
+-- What may be asked: a state and a goal that pass 13 and 14, the goal covered.
+pub record Admitted (m : Model) (plan state goal : List ℕ) : Type 0 where
+  pub state-fits : StateFits m state
+  pub goal-fits : GoalFits m goal
+  pub covered : Covered m plan (goalMasks m goal) state (groupCount (groupsIn m plan))
 
 -- Covered is exactly that none of 16, 17 and 18 applies, for any shaped plan of bytes and any state that passes 13.
 abbrev pub CoveredExactly : Type 0

@@ -5,7 +5,8 @@ use mathlib.Core.Path.{_≡_}
 use mathlib.Core.List.{List, List·Memᴰ}
 use mathlib.Core.Bool.{true, false}
 use Rattle.common.specs.Bits.{bit}
-use Rattle.common.specs.Reply.{Reply, given, refused, clear}
+use Rattle.common.specs.Reply.{Reply, given, refused}
+use Rattle.sheet.specs.Record.{byte}
 use Rattle.sheet.specs.Model.{Guard, Move, Model, moveCount, moveAt}
 use Rattle.sheet.specs.Parse.{Parsed, parse}
 use Rattle.plan.specs.Groups.{groupOf, groupCount}
@@ -15,7 +16,8 @@ use Rattle.plan.specs.Reading.{groupsIn, entryAt, wellShaped}
 use Rattle.command.specs.State.{modeOf}
 use Rattle.command.specs.Goal.{Masks, goalMasks, guardMasks, met, allowed}
 use Rattle.command.specs.Attainable.{groups, present}
-use Rattle.command.specs.Next.{Next, done, command, distanceTo, goalRefusals, nextReply}
+use Rattle.command.specs.Next.{Next, done, command, nextReply}
+use Rattle.command.specs.Covered.{Admitted}
 use Rattle.command.specs.Apply.{Answers}
 
 -- what the method comes to: nothing is unmet, an entry is unfit, or an entry's move is sent
@@ -37,19 +39,20 @@ module _ (m : Model) (plan state : List ℕ) where
     pub unmet : met (groups m plan) masks state k ≡ false
     pub above-met : (j : ℕ) → k < j → j < n → met (groups m plan) masks state j ≡ true
 
+  -- the plan's entry from the present mode of group k to mode q
+  abbrev pub entryToward : ℕ → ℕ → Entry
+  entryToward k q = entryAt m plan k (present m plan state k) q
+
   -- group mode q is its target: allowed, none allowed is nearer, and of those as near it has the smallest number
   pub record Target (masks : Masks) (k q : ℕ) : Type 0 where
     pub within : q < size m (groups m plan) k
     pub fits : allowed m (groups m plan) masks k q ≡ true
     pub nearest : (t : ℕ) → t < size m (groups m plan) k → allowed m (groups m plan) masks k t ≡ true
-        → distanceTo m plan state k q ≤ distanceTo m plan state k t
+        → entryToward k q .distance ≤ entryToward k t .distance
     pub smallest : (t : ℕ) → t < q → allowed m (groups m plan) masks k t ≡ true
-        → distanceTo m plan state k q < distanceTo m plan state k t
+        → entryToward k q .distance < entryToward k t .distance
 
-  -- the plan's entry from the present mode of group k to mode q, and its move
-  abbrev pub entryToward : ℕ → ℕ → Entry
-  entryToward k q = entryAt m plan k (present m plan state k) q
-
+  -- the move of that entry
   abbrev pub moveToward : ℕ → ℕ → Move
   moveToward k q = moveAt m (entryToward k q .move)
 
@@ -92,8 +95,8 @@ module _ (m : Model) (plan state : List ℕ) where
 abbrev pub PicksFor : Model → List ℕ → List ℕ → List ℕ → Pick → Type 0
 PicksFor m plan state goal = Picks m plan state (goalMasks m goal) (groupCount (groupsIn m plan))
 
--- For a sheet that passes, a plan in shape, and a state and goal that pass 13 and 14, the goal covered: the method picks one
--- thing alone, and that is replied.
+-- For a sheet that passes, a plan of bytes in shape, and a state and goal that pass 13 and 14, the goal covered: the method picks
+-- one thing alone, and that is replied.
 pub record MethodRight (m : Model) (sheet plan state goal : List ℕ) : Type 0 where
   pub pick : Pick
   pub picked : PicksFor m plan state goal pick
@@ -106,4 +109,4 @@ pub record MethodRight (m : Model) (sheet plan state goal : List ℕ) : Type 0 w
 abbrev pub MethodFollowed : Type 0
 MethodFollowed =
     (sheet plan state goal : List ℕ) (d : Parsed) → parse sheet ≡ given d → wellShaped (d .model) plan ≡ true
-    → clear (goalRefusals (d .model) plan state goal) ≡ true → MethodRight (d .model) sheet plan state goal
+    → ((i : ℕ) → byte plan i < 256) → Admitted (d .model) plan state goal → MethodRight (d .model) sheet plan state goal

@@ -45,6 +45,13 @@ pub record FirstWrong (Right : ℕ → Type 0) (n place : ℕ) : Type 0 where
   pub wrong : Right place → ⊥
   pub before : (i : ℕ) → i < place → Right i
 
+-- What is long enough and does not fit has a first machine that is not right.
+abbrev pub FirstFound : Type 0
+FirstFound =
+    (m : Model) (bytes : List ℕ)
+    → (length bytes ≡ 2 * machineCount m → (StateFits m bytes → ⊥) → (i : ℕ) × FirstWrong (Present m bytes) (machineCount m) i)
+    × (length bytes ≤ machineCount m → (GoalFits m bytes → ⊥) → (i : ℕ) × FirstWrong (Sensible m bytes) (length bytes) i)
+
 -- Next command, for a sheet that passes: 15 for the shape, then 13, then 14, the length before the bytes.
 pub record NextTurnedDown (m : Model) (sheet plan state goal : List ℕ) : Type 0 where
   pub shape : (Shaped m plan → ⊥) → nextReply sheet plan state goal ≡ refused 15 0

@@ -4,7 +4,7 @@ use mathlib.Core.Path.{_≡_}
 use mathlib.Core.Logic.{_⊎_}
 use mathlib.Core.List.{List}
 use mathlib.Core.Bool.{true, false}
-use Rattle.common.specs.Reply.{Reply, given, refused, clear}
+use Rattle.common.specs.Reply.{Reply, given, refused}
 use Rattle.sheet.specs.Record.{byte}
 use Rattle.sheet.specs.Model.{Model, machineCount}
 use Rattle.sheet.specs.Parse.{Parsed, parse}
@@ -12,12 +12,11 @@ use Rattle.plan.specs.Groups.{groupOf, groupCount}
 use Rattle.plan.specs.Modes.{size}
 use Rattle.plan.specs.Laws.{Connects}
 use Rattle.plan.specs.Reading.{wellShaped}
-use Rattle.command.specs.State.{stateFaults}
-use Rattle.command.specs.Goal.{goalFaults}
 use Rattle.command.specs.Goal.{Masks, goalMasks, met}
 use Rattle.command.specs.Ancestors.{upstreamIn}
-use Rattle.command.specs.Attainable.{groups, present, liveGroup, attainFaults}
-use Rattle.command.specs.Covered.{Attains, Safe}
+use Rattle.command.specs.Attainable.{groups, present, liveGroup}
+use Rattle.command.specs.TurnedDown.{StateFits, GoalFits}
+use Rattle.command.specs.Covered.{Attains, Safe, Admitted}
 use Rattle.command.specs.Next.{nextReply}
 
 module _ (m : Model) (plan state : List ℕ) (masks : Masks) where
@@ -71,22 +70,26 @@ module _ (m : Model) (plan state : List ℕ) (masks : Masks) where
     pub attains : Attains m plan masks k (present m plan state k)
     pub no-dead-end : (a : ℕ) → a < count → upstreamIn m plan k a ≡ true → Safe m plan masks a (present m plan state a)
 
-  -- the highest-numbered unmet group that has a cause refuses
-  pub record Uncovered {A : Type 0} (reply : Reply A) : Type 0 where
+  -- number n and place p are those of the highest-numbered unmet group that has a cause
+  pub record Uncovered (n p : ℕ) : Type 0 where
     pub group : ℕ
     pub below : group < count
     pub unmet : met (groups m plan) masks state group ≡ false
     pub higher-pass : (b : ℕ) → group < b → b < count → met (groups m plan) masks state b ≡ false → Passes b
+    pub because : Because group n p
+
+  -- there is one such number and place, and the reply is that refusal
+  pub record RefusedSo {A : Type 0} (reply : Reply A) : Type 0 where
     pub number : ℕ
     pub place : ℕ
-    pub because : Because group number place
+    pub uncovered : Uncovered number place
+    pub alone : (n p : ℕ) → Uncovered n p → (n ≡ number) × (p ≡ place)
     pub refuses : reply ≡ refused number place
 
--- With a sheet that parses, a plan in shape, and a state and goal that pass 13 and 14: a goal that is not covered is refused so.
+-- With a sheet that passes, a plan in shape, and a state and goal that pass 13 and 14: a goal that is not covered is refused so.
 abbrev pub UncoveredRefused : Type 0
 UncoveredRefused =
     (sheet plan state goal : List ℕ) (d : Parsed) → parse sheet ≡ given d → wellShaped (d .model) plan ≡ true
-    → ((i : ℕ) → byte plan i < 256)
-    → clear (stateFaults (d .model) state) ≡ true → clear (goalFaults (d .model) goal) ≡ true
-    → clear (attainFaults (d .model) plan state (goalMasks (d .model) goal)) ≡ false
-    → Uncovered (d .model) plan state (goalMasks (d .model) goal) (nextReply sheet plan state goal)
+    → ((i : ℕ) → byte plan i < 256) → StateFits (d .model) state → GoalFits (d .model) goal
+    → (Admitted (d .model) plan state goal → ⊥)
+    → RefusedSo (d .model) plan state (goalMasks (d .model) goal) (nextReply sheet plan state goal)

@@ -28,6 +28,10 @@ pub record WalkRight (sheet state goal : List ℕ) : Type 0 where
       → walkLines sheet state goal ≡ stopped n p ∷ []
   pub obeyed : (k : ℕ) (plan : List ℕ) (d : Parsed) → lengthReply sheet ≡ given k → planReply sheet k 512 ≡ given plan
       → parse sheet ≡ given d → Obeys sheet plan goal (boundIn (d .model) plan) 0 state (walkLines sheet state goal)
+  -- and no other lines are
+  pub alone : (k : ℕ) (plan : List ℕ) (d : Parsed) (lines : List Line) → lengthReply sheet ≡ given k
+      → planReply sheet k 512 ≡ given plan → parse sheet ≡ given d
+      → Obeys sheet plan goal (boundIn (d .model) plan) 0 state lines → lines ≡ walkLines sheet state goal
 
 abbrev pub WalksRight : Type 0
 WalksRight = (sheet state goal : List ℕ) → WalkRight sheet state goal

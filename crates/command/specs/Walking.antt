@@ -72,3 +72,6 @@ pub record TurnsRight (sheet state goal : List ℕ) : Type 0 where
       → obey sheet plan goal bound (suc n) count state
       ≡ linesBy (turnTold (turnReply sheet plan state goal)) count bound
       (obey sheet plan goal bound n (count + 1) (turnLeaves (turnReply sheet plan state goal) state))
+  -- a turn that is refused tells so and leaves the state
+  pub kept : (plan : List ℕ) (i p : ℕ) → turnReply sheet plan state goal ≡ refused i p
+      → (turnTold (turnReply sheet plan state goal) ≡ refused i p) × (turnLeaves (turnReply sheet plan state goal) state ≡ state)

@@ -10,7 +10,7 @@ ghost use Rattle.command.specs.Meaning.{GoalsRight, MovesRight, StatesRi
 ghost use Rattle.command.specs.Method.{MethodFollowed};
 ghost use Rattle.command.specs.Tagless.{TaglessSame};
 ghost use Rattle.command.specs.Tags.{LaidOut, NeverTagged, TagsAside};
-ghost use Rattle.command.specs.TurnedDown.{GoalPasses, SheetBefore, StatePasses, TurnedDown};
+ghost use Rattle.command.specs.TurnedDown.{FirstFound, GoalPasses, SheetBefore, StatePasses, TurnedDown};
 ghost use Rattle.command.specs.Uncovered.{UncoveredRefused};
 ghost use Rattle.command.specs.Walked.{WalksRight};
 ghost use Rattle.command.specs.Walking.{TurnsRight};
@@ -33,6 +33,11 @@ pub fn states_pass()
 // A goal passes 14 exactly if each of its bytes holds a mode of its machine and none beyond.
 pub fn goals_pass()
     ensures { λ _. ⌜ GoalPasses ⌝ }
+{}
+
+// A state or a goal that is long enough and does not pass has a first machine at which it does not.
+pub fn first_wrong_is_found()
+    ensures { λ _. ⌜ FirstFound ⌝ }
 {}
 
 // A plan out of shape, a faulty state and a faulty goal are refused by 15, 13 and 14, in this order, each at its place.
