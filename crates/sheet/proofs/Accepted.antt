@@ -4,23 +4,18 @@
 use Prim.Native.Nat.{ℕ, _+_, _-_, _≤_, _<_}
 use mathlib.Core.Path.{_≡_, refl, sym, ap, ap₂, subst, _∙_}
 use mathlib.Core.List.{List, [], _++_, flatMap}
-use mathlib.Core.Bool.{Bool, true, false, _&&_}
 use native.Mathlib.Omega.{arith}
-use borrow.Author.Tests.{eqb-true}
-use lib.Dec.{eqb}
 use lib.ListN.{length, getD, take, length-append}
 use lib.Seq.{length-take-le, take-length, take-all, take-suc, getD-take}
-use Rattle.common.specs.Lists.{upTo, any}
+use Rattle.common.specs.Lists.{upTo}
 use Rattle.common.specs.Reply.{given}
-use Rattle.common.proofs.Bools.{false-of-not-true, and-left, and-right}
-use Rattle.common.proofs.Lists.{any-fails}
-use Rattle.common.proofs.Members.{mem-index}
 use Rattle.common.proofs.Places.{Stands, stands-whole, stands-moved, stands-left, stands-right}
 use Rattle.sheet.specs.Record.{recordOf}
-use Rattle.sheet.specs.Model.{Move, Model, noMove, machineCount, moveCount, modeCount, moveAt}
+use Rattle.sheet.specs.Model.{Model, noMove, machineCount, moveCount, modeCount, moveAt}
 use Rattle.sheet.specs.Model.{withMachine, withMove}
-use Rattle.sheet.specs.Faults.{sameMove, faultsOf}
+use Rattle.sheet.specs.Faults.{faultsOf}
 use Rattle.sheet.specs.Valid.{Valid}
+use Rattle.sheet.specs.Faulty.{CommandRight}
 use Rattle.sheet.specs.Parse.{Parsed, extended, parse}
 use Rattle.sheet.specs.Write.{machineBody, moveBody, sheetBytes}
 use Rattle.sheet.proofs.Fits.{MovePasses}
@@ -29,15 +24,6 @@ use Rattle.sheet.proofs.Passes.{machine-clear, move-clear, end-clear}
 use Rattle.sheet.proofs.Bodies.{length-machineBody, length-moveBody, move-back}
 use Rattle.sheet.proofs.Written.{length-recordOf}
 use Rattle.sheet.proofs.Series.{Comes, comes-first, comes-to-end, Series, comes-through}
-
-pub same-fields : (v w : Move) → sameMove v w ≡ true
-    → (v .machine ≡ w .machine) × (v .from ≡ w .from) × (v .command ≡ w .command)
-unfolding sameMove
-same-fields v w t =
-    let a : Bool = eqb (v .machine) (w .machine) in
-    let b : Bool = eqb (v .from) (w .from) in
-    let both : a && b ≡ true = and-left _ _ t in
-    (eqb-true _ _ (and-left a b both), eqb-true _ _ (and-right a b both), eqb-true _ _ (and-right (a && b) _ t))
 
 module _ (m : Model) where
   -- what is read before machine k, and before move k
@@ -76,18 +62,16 @@ module _ (m : Model) where
         }
 
     -- no earlier move has the same machine, from mode and command
-    pub not-before : (k : ℕ) → k < moveCount m → any (sameMove (moveAt m k)) (take k (m .moves)) ≡ false
+    pub not-before : (k : ℕ) → k < moveCount m → CommandRight (firstMoves k) (moveAt m k)
     not-before k h =
-        any-fails (sameMove (moveAt m k)) (take k (m .moves))
-        (λ w i.
-        let j = mem-index noMove i in
-        let few = length-take-le k (m .moves) (omega arith) in
-        let early : j .0 < k = omega arith in
-        let e : moveAt m (j .0) ≡ w = sym (getD-take k (m .moves) (j .0) noMove early) ∙ j .2 in
-        false-of-not-true
-        (λ t.
-        let f = same-fields (moveAt m k) (moveAt m (j .0)) (rw e t) in
-        omega (arith, ok .moves-distinct k (j .0) h (omega arith) (f .0) (f .1) (f .2))))
+        record {
+          some = ok .moves-valid k h .command-given;
+          new = λ w l.
+              let few = length-take-le k (m .moves) (omega arith) in
+              let early : w < k = omega arith in
+              rw (getD-take k (m .moves) w noMove early)
+              (λ a b c. omega (arith, ok .moves-distinct w k (omega arith) h a b c));
+        }
 
     pub move-fine : (k : ℕ) → k < moveCount m → MovePasses (firstMoves k) (moveBody (moveAt m k))
     move-fine k h =
@@ -101,7 +85,7 @@ module _ (m : Model) where
           has-machine = omega (arith, v .present);
           room = omega (arith, ok .few-moves, length-take-le k (m .moves) (omega arith));
           valid = rw move-back (same-move m _ v);
-          new = rw move-back (not-before k h);
+          command = rw move-back (not-before k h);
         }
 
     pub move-series : Series 2 (moveCount m) (λ v. moveBody (moveAt m v)) firstMoves

@@ -1,24 +1,24 @@
 -- What passes the causes 5 to 8 is a valid machine or a valid move of the model.
 -- Assumes nothing.
 use Prim.Native.Nat.{ℕ, suc, _-_, _%_, _≤_, _<_}
-use mathlib.Core.Path.{_≡_}
+use mathlib.Core.Path.{_≡_, sym}
 use mathlib.Core.List.{List}
 use mathlib.Core.Bool.{Bool, false, _&&_}
 use native.Mathlib.Numerals.{sub-one}
 use native.Mathlib.Omega.{arith}
-use borrow.Author.Tests.{ltb-false, leb-true, leb-false, eqb-true, eqb-false, not-false, lt-ltb}
+use borrow.Author.Tests.{ltb-false, leb-true, leb-false, eqb-true, eqb-false, not-false, lt-ltb, eq-eqb}
 use lib.Dec.{eqb, ltb, leb}
 use lib.ListN.{length, List·getD-eq-default}
-use Rattle.common.specs.Lists.{any}
-use Rattle.common.proofs.Bools.{by-cases, or-false-left, or-false-right}
+use Rattle.common.proofs.Bools.{by-cases, true-false, and-intro, or-false-left, or-false-right}
 use Rattle.common.proofs.Lists.{any-none}
-use Rattle.common.proofs.Members.{upTo-mem}
+use Rattle.common.proofs.Members.{upTo-mem, mem-getD}
 use Rattle.common.proofs.Reply.{Clear}
 use Rattle.sheet.specs.Record.{byte}
-use Rattle.sheet.specs.Model.{Move, Model, machineCount, moveCount, modeCount, guardAt, moveOf}
+use Rattle.sheet.specs.Model.{Move, Model, noMove, machineCount, moveCount, modeCount, guardAt, moveOf}
 use Rattle.sheet.specs.Faults.{wrongMoveLength, badMachine, badMove, badGuard, badGuards, sameMove, badCommand}
 use Rattle.sheet.specs.Faults.{machineFaults, moveFaults}
 use Rattle.sheet.specs.Valid.{ValidGuard, ValidMove, ValidMachine}
+use Rattle.sheet.specs.Faulty.{ModesRight, NeedsRight, CommandRight}
 use Rattle.sheet.proofs.Guards.{guard-count}
 
 pub ruleset parts = (or-false-left, or-false-right)
@@ -42,35 +42,10 @@ has-modes m i h =
     (λ t. omega (arith, List·getD-eq-default (m .modes) 0 (leb-true (machineCount m) i t)))
     (λ f. leb-false _ _ f)
 
-module _ (m : Model) (v : Move) (few : length (v .guards) ≤ 8) (given : v .command ≡ 0 → ⊥)
-    (fine : badMove (m .modes) (m .live) v ≡ false) (met : badGuards (m .modes) v ≡ false) where
-  pub no-guard-bad : (n : ℕ) → n < length (v .guards) → badGuard (m .modes) v n ≡ false
-  unfolding badGuards
-  no-guard-bad n h = any-none (badGuard (m .modes) v) met (upTo-mem h)
-
-  pub guard-fits : (n : ℕ) → n < length (v .guards) → ValidGuard m v (guardAt v n)
-  unfolding badGuard
-  guard-fits n h =
-      let b = no-guard-bad n h in
-      let a : eqb (modeCount m (guardAt v n .machine)) 0 ≡ false = search parts in
-      record {
-        present = has-modes m _ (omega (arith, eqb-false (modeCount m (guardAt v n .machine)) 0 a));
-        foreign = eqb-false _ _ (search parts);
-        nonempty = eqb-false _ _ (search parts);
-        within = search parts;
-      }
-
-  pub guard-rises : (n : ℕ) → suc n < length (v .guards) → guardAt v n .machine < guardAt v (suc n) .machine
-  unfolding badGuard
-  guard-rises n h =
-      let b = no-guard-bad (suc n) h in
-      let above : Bool = leb (guardAt v (suc n) .machine) (guardAt v (suc n - 1) .machine) in
-      let a : ltb 0 (suc n) && above ≡ false = search parts in
-      leb-false _ _ (rw (lt-ltb 0 (suc n) (omega arith), sub-one) at a)
-
-  pub move-fits : ValidMove m v
+module _ (m : Model) (v : Move) where
+  pub modes-fit : badMove (m .modes) (m .live) v ≡ false → ModesRight m v
   unfolding badMove
-  move-fits =
+  modes-fit fine =
       let a : leb (modeCount m (v .machine)) (v .from) ≡ false = search parts in
       let b : leb (modeCount m (v .machine)) (v .to) ≡ false = search parts in
       record {
@@ -80,10 +55,60 @@ module _ (m : Model) (v : Move) (few : length (v .guards) ≤ 8) (given : v .com
         moves-on = eqb-false _ _ (search parts);
         from-live = not-false _ (search parts);
         to-live = not-false _ (search parts);
-        command-given = given;
+      }
+
+  module _ (met : badGuards (m .modes) v ≡ false) where
+    pub no-guard-bad : (n : ℕ) → n < length (v .guards) → badGuard (m .modes) v n ≡ false
+    unfolding badGuards
+    no-guard-bad n h = any-none (badGuard (m .modes) v) met (upTo-mem h)
+
+    pub guard-fits : (n : ℕ) → n < length (v .guards) → ValidGuard m v (guardAt v n)
+    unfolding badGuard
+    guard-fits n h =
+        let b = no-guard-bad n h in
+        let a : eqb (modeCount m (guardAt v n .machine)) 0 ≡ false = search parts in
+        record {
+          present = has-modes m _ (omega (arith, eqb-false (modeCount m (guardAt v n .machine)) 0 a));
+          foreign = eqb-false _ _ (search parts);
+          nonempty = eqb-false _ _ (search parts);
+          within = search parts;
+        }
+
+    pub guard-rises : (n : ℕ) → suc n < length (v .guards) → guardAt v n .machine < guardAt v (suc n) .machine
+    unfolding badGuard
+    guard-rises n h =
+        let b = no-guard-bad (suc n) h in
+        let above : Bool = leb (guardAt v (suc n) .machine) (guardAt v (suc n - 1) .machine) in
+        let a : ltb 0 (suc n) && above ≡ false = search parts in
+        leb-false _ _ (rw (lt-ltb 0 (suc n) (omega arith), sub-one) at a)
+
+    pub needs-fit : NeedsRight m v
+    needs-fit = record { each = guard-fits; rise = guard-rises }
+
+  pub command-fits : badCommand (m .moves) v ≡ false → CommandRight m v
+  unfolding badCommand sameMove
+  command-fits fine =
+      record {
+        some = eqb-false _ _ (search parts);
+        new = λ w h a b c.
+            true-false
+            (and-intro (and-intro (eq-eqb _ _ (sym a)) (eq-eqb _ _ (sym b))) (eq-eqb _ _ (sym c)))
+            (any-none (sameMove v) (or-false-right (eqb (v .command) 0) _ fine) (mem-getD (m .moves) w noMove h));
+      }
+
+  pub move-fits : length (v .guards) ≤ 8 → ModesRight m v → NeedsRight m v → CommandRight m v → ValidMove m v
+  move-fits few modes needs command =
+      record {
+        present = modes .present;
+        from-present = modes .from-present;
+        to-present = modes .to-present;
+        moves-on = modes .moves-on;
+        from-live = modes .from-live;
+        to-live = modes .to-live;
+        command-given = command .some;
         few-guards = few;
-        guards-valid = guard-fits;
-        guards-rise = guard-rises;
+        guards-valid = needs .each;
+        guards-rise = needs .rise;
       }
 
 -- what a machine record that passes has shown
@@ -101,7 +126,7 @@ pub record MovePasses (m : Model) (body : List ℕ) : Type 0 where
   pub has-machine : 0 < machineCount m
   pub room : moveCount m < 250
   pub valid : ValidMove m (moveOf body)
-  pub new : any (sameMove (moveOf body)) (m .moves) ≡ false
+  pub command : CommandRight m (moveOf body)
 
 module _ (m : Model) (at : ℕ) (body : List ℕ) where
   pub machine-passes : Clear (machineFaults m at body) → MachinePasses m body
@@ -117,7 +142,7 @@ module _ (m : Model) (at : ℕ) (body : List ℕ) where
       }
 
   pub move-passes : Clear (moveFaults m at body) → MovePasses m body
-  unfolding moveFaults wrongMoveLength badCommand
+  unfolding moveFaults wrongMoveLength
   move-passes c =
       let a : ltb (length body) 4 ≡ false = search parts in
       let b : ltb 20 (length body) ≡ false = search parts in
@@ -131,7 +156,7 @@ module _ (m : Model) (at : ℕ) (body : List ℕ) where
         has-machine = omega (arith, eqb-false (machineCount m) 0 f);
         room = leb-false _ _ g;
         valid =
-            move-fits m (moveOf body) (omega (arith, guard-count body, ltb-false)) (eqb-false _ _ (search parts))
-            (c .1 .1 .0) (c .1 .1 .1 .0);
-        new = search parts;
+            move-fits m (moveOf body) (omega (arith, guard-count body, ltb-false))
+            (modes-fit m _ (c .1 .1 .0)) (needs-fit m _ (c .1 .1 .1 .0)) (command-fits m _ (c .1 .1 .1 .1 .0));
+        command = command-fits m _ (c .1 .1 .1 .1 .0);
       }

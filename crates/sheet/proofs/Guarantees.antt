@@ -1,14 +1,11 @@
 -- What reading a sheet promises, from the laws of the parse and of the index.
 -- Assumes nothing.
-use Prim.Native.Nat.{ℕ}
-use mathlib.Core.List.{List}
-use Rattle.sheet.specs.Meaning.{AcceptedValid, AcceptedWhole, ValidAccepted, RefusedListed, CausesInOrder, IndexAnswers}
+use Rattle.sheet.specs.Meaning.{AcceptedValid, AcceptedWhole, ValidAccepted, RefusedListed, IndexAnswers}
 use Rattle.sheet.proofs.Parsed.{parse-valid, parse-has-machine}
 use Rattle.sheet.proofs.Accepted.{sheet-accepted}
 use Rattle.sheet.proofs.Exact.{parse-exact}
 use Rattle.sheet.proofs.SheetBytes.{sheet-is-bytes}
 use Rattle.sheet.proofs.Place.{refusal-number, refusal-place}
-use Rattle.sheet.proofs.Order.{one-before-two, lowest-number, more-turns}
 use Rattle.sheet.proofs.Answers.{machines-in, moves-in, modes-in, live-in, machine-in, from-in, to-in, command-in}
 use Rattle.sheet.proofs.Answers.{guard-count-in, guard-machine-in, guard-mask-in}
 
@@ -25,14 +22,6 @@ valid-accepted m ok some =
 
 pub refused-listed : RefusedListed
 refused-listed s n p q = (refusal-number s q .0, refusal-number s q .1, refusal-place s q)
-
-pub causes-in-order : (s : List ℕ) → CausesInOrder s
-causes-in-order s =
-    record {
-      cut-first = λ n at d. one-before-two n s at d;
-      lowest = λ at d kind start len n p q f. lowest-number s at d kind start len q;
-      all-records = more-turns s;
-    }
 
 pub index-answers : IndexAnswers
 index-answers s d q =

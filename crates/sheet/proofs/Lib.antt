@@ -5,8 +5,10 @@ pub mod BadGuards
 pub mod BadMoves
 pub mod Bodies
 pub mod Bytes
+pub mod Causes
 pub mod Counts
 pub mod Exact
+pub mod Faulty
 pub mod Fits
 pub mod Guarantees
 pub mod Guards
@@ -16,11 +18,11 @@ pub mod Judging
 pub mod Keyed
 pub mod Keys
 pub mod Modes
-pub mod Order
 pub mod Parsed
 pub mod Passes
 pub mod Place
 pub mod Records
+pub mod Refusals
 pub mod ScanTurns
 pub mod Scanning
 pub mod Series

@@ -1,23 +1,24 @@
 -- A valid machine and a valid move of the model pass the causes 2 and 4 to 8: the other way round of `Fits`.
 -- Assumes nothing.
 use Prim.Native.Nat.{ℕ, zero, suc, _-_, _%_, _≤_, _<_}
-use mathlib.Core.Path.{_≡_}
+use mathlib.Core.Path.{_≡_, sym}
 use mathlib.Core.List.{List}
-use mathlib.Core.Bool.{false, _&&_}
+use mathlib.Core.Bool.{Bool, true, false, _&&_}
 use native.Mathlib.Numerals.{sub-one}
 use native.Mathlib.Omega.{arith}
-use borrow.Author.Tests.{lt-leb, le-ltb, eq-eqb, ne-eqb, lt-ltb}
-use lib.Dec.{ltb, leb}
+use borrow.Author.Tests.{lt-leb, le-ltb, eq-eqb, ne-eqb, lt-ltb, eqb-true}
+use lib.Dec.{eqb, ltb, leb}
 use lib.ListN.{length}
 use Rattle.common.specs.Lists.{upTo}
-use Rattle.common.proofs.Bools.{or-false-intro, not-of-true}
+use Rattle.common.proofs.Bools.{or-false-intro, not-of-true, and-left, and-right, false-of-not-true}
 use Rattle.common.proofs.Lists.{any-fails}
-use Rattle.common.proofs.Members.{upTo-below}
+use Rattle.common.proofs.Members.{upTo-below, mem-index}
 use Rattle.common.proofs.Reply.{Clear}
-use Rattle.sheet.specs.Model.{Move, Model, machineCount, moveCount, modeCount, guardAt}
-use Rattle.sheet.specs.Faults.{wrongMoveLength, badMachine, badMove, badGuard, badGuards, badCommand}
+use Rattle.sheet.specs.Model.{Move, Model, noMove, machineCount, moveCount, modeCount, moveAt, guardAt}
+use Rattle.sheet.specs.Faults.{wrongMoveLength, badMachine, badMove, badGuard, badGuards, sameMove, badCommand}
 use Rattle.sheet.specs.Faults.{machineFaults, moveFaults, endFaults}
 use Rattle.sheet.specs.Valid.{ValidMove, ValidMachine}
+use Rattle.sheet.specs.Faulty.{ModesRight, NeedsRight, CommandRight}
 use Rattle.sheet.proofs.Fits.{MachinePasses, MovePasses}
 
 pub machine-not-bad : (modes live : ℕ) → ValidMachine modes live → badMachine modes live ≡ false
@@ -30,10 +31,20 @@ machine-not-bad modes live h =
       h .within,
     )
 
-module _ (m : Model) (v : Move) (h : ValidMove m v) where
-  pub move-not-bad : badMove (m .modes) (m .live) v ≡ false
+-- two moves with the same machine, from mode and command
+pub same-fields : (v w : Move) → sameMove v w ≡ true
+    → (v .machine ≡ w .machine) × (v .from ≡ w .from) × (v .command ≡ w .command)
+unfolding sameMove
+same-fields v w t =
+    let a : Bool = eqb (v .machine) (w .machine) in
+    let b : Bool = eqb (v .from) (w .from) in
+    let both : a && b ≡ true = and-left _ _ t in
+    (eqb-true _ _ (and-left a b both), eqb-true _ _ (and-right a b both), eqb-true _ _ (and-right (a && b) _ t))
+
+module _ (m : Model) (v : Move) where
+  pub modes-pass : ModesRight m v → badMove (m .modes) (m .live) v ≡ false
   unfolding badMove
-  move-not-bad =
+  modes-pass h =
       rw (
         lt-leb (modeCount m (v .machine)) (v .from) (h .from-present),
         lt-leb (modeCount m (v .machine)) (v .to) (h .to-present),
@@ -42,18 +53,18 @@ module _ (m : Model) (v : Move) (h : ValidMove m v) where
         h .to-live,
       )
 
-  -- above the need before, where there is one
-  pub guard-not-falling : (n : ℕ) → n < length (v .guards)
-      → ltb 0 n && leb (guardAt v n .machine) (guardAt v (n - 1) .machine) ≡ false
-  guard-not-falling zero k = rw (le-ltb 0 0 (omega arith))
-  guard-not-falling (suc n) k = rw (lt-ltb 0 (suc n) (omega arith), sub-one) (lt-leb _ _ (h .guards-rise n k))
-
   -- where each machine has a mode
-  module _ (some : (i : ℕ) → i < machineCount m → 0 < modeCount m i) where
+  module _ (some : (i : ℕ) → i < machineCount m → 0 < modeCount m i) (h : NeedsRight m v) where
+    -- above the need before, where there is one
+    pub guard-not-falling : (n : ℕ) → n < length (v .guards)
+        → ltb 0 n && leb (guardAt v n .machine) (guardAt v (n - 1) .machine) ≡ false
+    guard-not-falling zero k = rw (le-ltb 0 0 (omega arith))
+    guard-not-falling (suc n) k = rw (lt-ltb 0 (suc n) (omega arith), sub-one) (lt-leb _ _ (h .rise n k))
+
     pub guard-not-bad : (n : ℕ) → n < length (v .guards) → badGuard (m .modes) v n ≡ false
     unfolding badGuard
     guard-not-bad n k =
-        let g = h .guards-valid n k in
+        let g = h .each n k in
         rw (
           ne-eqb (modeCount m (guardAt v n .machine)) 0 (λ e. omega (arith, some (guardAt v n .machine) (g .present))),
           ne-eqb (guardAt v n .machine) (v .machine) (g .foreign),
@@ -62,11 +73,32 @@ module _ (m : Model) (v : Move) (h : ValidMove m v) where
           g .within,
         )
 
-    pub guards-not-bad : badGuards (m .modes) v ≡ false
+    pub needs-pass : badGuards (m .modes) v ≡ false
     unfolding badGuards
-    guards-not-bad =
+    needs-pass =
         any-fails (badGuard (m .modes) v) (upTo (length (v .guards)))
         (λ n k. guard-not-bad n (upTo-below (length (v .guards)) k))
+
+  pub command-passes : CommandRight m v → badCommand (m .moves) v ≡ false
+  unfolding badCommand
+  command-passes h =
+      or-false-intro (ne-eqb _ 0 (h .some))
+      (any-fails (sameMove v) (m .moves)
+      (λ w l.
+      let (j, below, e) = mem-index noMove l in
+      false-of-not-true
+      (λ t. let f = same-fields v (moveAt m j) (rw e t) in h .new j below (sym (f .0)) (sym (f .1)) (sym (f .2)))))
+
+valid-modes : {m : Model} {v : Move} → ValidMove m v → ModesRight m v
+valid-modes h =
+    record {
+      present = h .present;
+      from-present = h .from-present;
+      to-present = h .to-present;
+      moves-on = h .moves-on;
+      from-live = h .from-live;
+      to-live = h .to-live;
+    }
 
 pub length-not-wrong : (n : ℕ) → 4 ≤ n → n ≤ 20 → n % 2 ≡ 0 → wrongMoveLength n ≡ false
 unfolding wrongMoveLength
@@ -82,14 +114,15 @@ module _ (m : Model) (at : ℕ) (body : List ℕ) where
       (a, (b, (machine-not-bad _ _ (p .valid), tt)))
 
   pub move-clear : ((i : ℕ) → i < machineCount m → 0 < modeCount m i) → MovePasses m body → Clear (moveFaults m at body)
-  unfolding moveFaults badCommand
+  unfolding moveFaults
   move-clear some p =
       let v = p .valid in
       let a = length-not-wrong (length body) (p .long) (p .short) (p .even) in
       let present = ne-eqb (machineCount m) 0 (λ e. omega (arith, p .has-machine)) in
       let b = or-false-intro present (lt-leb 250 (moveCount m) (p .room)) in
-      let c = or-false-intro (ne-eqb _ 0 (v .command-given)) (p .new) in
-      (a, (b, (move-not-bad m _ v, (guards-not-bad m _ v some, (c, tt)))))
+      let modes = modes-pass m _ (valid-modes v) in
+      let needs = needs-pass m _ some (record { each = v .guards-valid; rise = v .guards-rise }) in
+      (a, (b, (modes, (needs, (command-passes m _ (p .command), tt)))))
 
   pub end-clear : length body ≡ 0 → 0 < machineCount m → Clear (endFaults m at body)
   unfolding endFaults

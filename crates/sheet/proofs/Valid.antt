@@ -7,21 +7,19 @@ use mathlib.Core.List.{List, [], _∷_, _++_}
 use mathlib.Core.Bool.{false}
 use native.Mathlib.Omega.{arith}
 use native.Mathlib.Nat.{not-suc-le-zero}
-use borrow.Author.Tests.{eqb-true, eq-eqb}
+use borrow.Author.Tests.{eqb-true}
 use lib.Dec.{eqb}
 use lib.ListN.{getD, List·getD-append}
 use lib.Seq.{getD-at}
-use Rattle.common.specs.Lists.{any}
 use Rattle.common.specs.Reply.{given}
-use Rattle.common.proofs.Bools.{by-cases, true-false, and-intro}
+use Rattle.common.proofs.Bools.{by-cases, true-false}
 use Rattle.common.proofs.Reply.{Clear}
-use Rattle.common.proofs.Lists.{any-none}
-use Rattle.common.proofs.Members.{mem-getD}
 use Rattle.common.proofs.Snoc.{length-snoc, snoc-each}
 use Rattle.sheet.specs.Model.{Guard, Move, Model, emptyModel, noMove, machineCount, moveCount, moveAt}
 use Rattle.sheet.specs.Model.{withMachine, withMove}
-use Rattle.sheet.specs.Faults.{sameMove, faultsOf}
+use Rattle.sheet.specs.Faults.{faultsOf}
 use Rattle.sheet.specs.Valid.{ValidGuard, ValidMove, ValidMachine, Valid}
+use Rattle.sheet.specs.Faulty.{CommandRight}
 use Rattle.sheet.specs.Record.{part}
 use Rattle.sheet.specs.Parse.{Parsed, extended, more, turnAt}
 use Rattle.sheet.proofs.Turns.{goes-on}
@@ -85,18 +83,9 @@ module _ (m : Model) (moves : List Move) where
 
 -- one more move
 module _ (m : Model) (x : Move) where
-  pub not-earlier : any (sameMove x) (m .moves) ≡ false → (v : ℕ) → v < moveCount m → x .machine ≡ moveAt m v .machine
-      → x .from ≡ moveAt m v .from → x .command ≡ moveAt m v .command → ⊥
-  unfolding sameMove
-  not-earlier new v h a b c =
-      true-false
-      (and-intro (and-intro (eq-eqb _ _ a) (eq-eqb _ _ b)) (eq-eqb _ _ c))
-      (any-none (sameMove x) new (mem-getD (m .moves) v noMove h))
-
-  pub with-move : Valid m → moveCount m < 250 → ValidMove m x → any (sameMove x) (m .moves) ≡ false
-      → Valid (withMove m x)
+  pub with-move : Valid m → moveCount m < 250 → ValidMove m x → CommandRight m x → Valid (withMove m x)
   unfolding withMove
-  with-move ok room fits new =
+  with-move ok room fits command =
       record {
         few-machines = ok .few-machines;
         same-length = ok .same-length;
@@ -109,9 +98,9 @@ module _ (m : Model) (x : Move) where
             snoc-each (m .moves) x noMove (λ v y. Told v y w (moveAt (withMove m x) w))
             (λ v h. snoc-each (m .moves) x noMove (Told v (moveAt m v))
             (λ w k. ok .moves-distinct v w h k)
-            (λ a b c. absurd (not-earlier new v h (sym a) (sym b) (sym c))) w k)
+            (λ a b c. absurd (command .new v h a b c)) w k)
             (snoc-each (m .moves) x noMove (Told (moveCount m) x)
-            (λ w k a b c. absurd (not-earlier new w k a b c))
+            (λ w k a b c. absurd (command .new w k (sym a) (sym b) (sym c)))
             (λ a b c. refl) w k) v h;
       }
 
@@ -137,7 +126,7 @@ module _ (s : List ℕ) (at : ℕ) (d : Parsed) (start len : ℕ) {next : ℕ} {
   valid-move q ok =
       let g = goes-on s at d 2 start len q in
       let c = move-passes (d .model) at (part s start len) (g .clear) in
-      subst (λ x. Valid (x .model)) (g .reads) (with-move (d .model) _ ok (c .room) (c .valid) (c .new))
+      subst (λ x. Valid (x .model)) (g .reads) (with-move (d .model) _ ok (c .room) (c .valid) (c .command))
 
   pub valid-turn : (kind : ℕ) → turnAt s at d kind start len ≡ given (more next e) → Valid (d .model) → Valid (e .model)
   valid-turn kind q ok =

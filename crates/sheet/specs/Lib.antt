@@ -1,4 +1,5 @@
 pub mod Faults
+pub mod Faulty
 pub mod Index
 pub mod Kept
 pub mod Meaning

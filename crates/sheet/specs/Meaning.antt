@@ -1,15 +1,13 @@
 -- What reading a sheet promises: of a sheet that passes, of its index, and of a refusal.
 use Prim.Native.Nat.{ℕ, _+_, _*_, _≤_, _<_}
 use mathlib.Core.Path.{_≡_}
-use mathlib.Core.List.{List, List·Memᴰ}
-use mathlib.Core.Bool.{true}
+use mathlib.Core.List.{List}
 use lib.ListN.{length, getD}
-use Rattle.common.specs.Reply.{given, refused, Fault}
-use Rattle.sheet.specs.Record.{byte, word, part}
+use Rattle.common.specs.Reply.{given, refused}
+use Rattle.sheet.specs.Record.{byte}
 use Rattle.sheet.specs.Model.{Model, machineCount, modeCount, moveCount, moveAt, guardAt}
 use Rattle.sheet.specs.Valid.{Valid}
-use Rattle.sheet.specs.Faults.{faultsOf}
-use Rattle.sheet.specs.Parse.{Parsed, nothing, turnAt, parseFrom, parse}
+use Rattle.sheet.specs.Parse.{Parsed, parse}
 use Rattle.sheet.specs.Write.{sheetBytes}
 use Rattle.sheet.specs.Index.{indexOf, modesIn, liveIn, moveByte, guardCountIn}
 
@@ -35,14 +33,6 @@ ValidAccepted = (m : Model) → Valid m → 0 < machineCount m → ReadBack m
 -- A refusal has one of the numbers 1 to 8, and a place in the file or just behind it.
 abbrev pub RefusedListed : Type 0
 RefusedListed = (s : List ℕ) (n p : ℕ) → parse s ≡ refused n p → (1 ≤ n) × (n ≤ 8) × (p ≤ length s)
-
--- Of several causes the first in order counts. A record that is cut short is 1, whatever its kind says; a whole one is refused by
--- the lowest of its causes that apply; and the count of records never runs out before a record refuses or ends the sheet.
-pub record CausesInOrder (s : List ℕ) : Type 0 where
-  pub cut-first : (n at : ℕ) (d : Parsed) → 0 < n → length s < at + 4 + word s at → parseFrom n s at d ≡ refused 1 at
-  pub lowest : (at : ℕ) (d : Parsed) (kind start len n p : ℕ) → turnAt s at d kind start len ≡ refused n p
-      → (f : Fault) → List·Memᴰ f (faultsOf (d .model) at kind (part s start len)) → f .applies ≡ true → n ≤ f .number
-  pub all-records : (k : ℕ) → parseFrom (283 + k) s 0 nothing ≡ parse s
 
 -- Each answer of the index is the model's field.
 pub record AnswersRight (s : List ℕ) (d : Parsed) : Type 0 where

@@ -1,8 +1,6 @@
 // What reading a sheet promises, as theorems. A function here does nothing: its contract is the theorem.
-ghost use mathlib.Core.List.{List};
-ghost use Prim.Native.Nat.{ℕ};
-ghost use Rattle.sheet.specs.Meaning.{AcceptedValid, AcceptedWhole, ValidAccepted, RefusedListed};
-ghost use Rattle.sheet.specs.Meaning.{CausesInOrder, IndexAnswers};
+ghost use Rattle.sheet.specs.Faulty.{RefusedExactly};
+ghost use Rattle.sheet.specs.Meaning.{AcceptedValid, AcceptedWhole, ValidAccepted, RefusedListed, IndexAnswers};
 
 // A sheet that passes 1 to 8 is valid, and has a machine.
 pub fn accepted_is_valid()
@@ -24,9 +22,9 @@ pub fn refused_is_listed()
     ensures { λ _. ⌜ RefusedListed ⌝ }
 {}
 
-// Of several causes the first in order counts.
-pub fn causes_are_in_order()
-    ensures { λ _. ⌜ ((s : List ℕ) → CausesInOrder s) ⌝ }
+// A file is refused with a number and a place exactly if its first faulty record has that as its lowest number.
+pub fn refused_is_exact()
+    ensures { λ _. ⌜ RefusedExactly ⌝ }
 {}
 
 // Each answer of the index is the model's field.
