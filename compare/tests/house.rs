@@ -1,9 +1,9 @@
 //! What a reader of the repository goes by, held against its files: what is to
 //! be believed uses nothing that private functions keep, README lists every
 //! definition in the order to read them, every promise has its row, and pages
-//! name files and edits that are there.
+//! name files, edits and fields that are there.
 
-use std::collections::BTreeSet;
+use std::collections::{BTreeMap, BTreeSet};
 use std::fs;
 use std::path::{Path, PathBuf};
 
@@ -161,6 +161,82 @@ fn pages_name_what_is_there() {
         }
     }
     assert!(count > 200, "only {count} paths");
+}
+
+/// The names of a record's fields or of a type's constructors: the lines under
+/// it that are indented further and declare one.
+fn declared_under<'a>(lines: impl Iterator<Item = &'a str>, indent: usize) -> BTreeSet<&'a str> {
+    let depth = |line: &str| line.len() - line.trim_start().len();
+    lines
+        .filter(|line| !line.trim().is_empty())
+        .take_while(|line| depth(line) > indent)
+        .filter(|line| depth(line) == indent + 2)
+        .filter_map(|line| line.trim().trim_start_matches("pub ").split_once(" : "))
+        .map(|(name, _)| name)
+        .collect()
+}
+
+/// Every record and inductive type of the definitions and statements, with what
+/// it declares. A name may stand in several crates.
+fn declarations(texts: &[String]) -> BTreeMap<&str, Vec<BTreeSet<&str>>> {
+    let mut found: BTreeMap<_, Vec<_>> = BTreeMap::new();
+    for text in texts {
+        for (at, line) in text.lines().enumerate() {
+            let plain = line.trim_start();
+            let word = ["pub record ", "pub data "]
+                .into_iter()
+                .find_map(|kind| plain.strip_prefix(kind));
+            let Some(name) = word.and_then(|rest| rest.split_whitespace().next()) else {
+                continue;
+            };
+            let indent = line.len() - plain.len();
+            let below = declared_under(text.lines().skip(at + 1), indent);
+            found.entry(name).or_default().push(below);
+        }
+    }
+    found
+}
+
+/// `a`, `b` and `c` of `Record`: each record so named, with the names before it.
+fn cited_fields(page: &str) -> Vec<(&str, Vec<&str>)> {
+    let parts: Vec<_> = page.split('`').collect();
+    let mut cited = Vec::new();
+    for at in (3..parts.len()).step_by(2) {
+        let is_record = parts[at].starts_with(|c: char| c.is_ascii_uppercase());
+        if !is_record || parts[at - 1] != " of " {
+            continue;
+        }
+        let mut names = vec![parts[at - 2]];
+        let mut front = at - 2;
+        while front > 2 && [", ", " and "].contains(&parts[front - 1]) {
+            front -= 2;
+            names.push(parts[front]);
+        }
+        cited.push((parts[at], names));
+    }
+    cited
+}
+
+#[test]
+fn cited_fields_are_there() {
+    let texts: Vec<_> = crates()
+        .iter()
+        .flat_map(|folder| believed(folder))
+        .map(|file| read(&file))
+        .collect();
+    let declared = declarations(&texts);
+    let mut count = 0;
+    for (record, names) in cited_fields(PROMISES) {
+        let places = declared
+            .get(record)
+            .unwrap_or_else(|| panic!("no record {record}"));
+        for name in &names {
+            let there = places.iter().any(|fields| fields.contains(name));
+            assert!(there, "{record} has no {name}");
+        }
+        count += names.len();
+    }
+    assert!(count > 80, "only {count} fields");
 }
 
 /// In a cell, names behind an edit's path are further edits of its folder.
