@@ -35,28 +35,17 @@ use Rattle.command.proofs.Stays
 use Rattle.command.proofs.Fall.{named, Scoped, outsideCost, fall, fall-met, fall-unmet, fall-heading}
 use Rattle.command.proofs.Fall.{named-cost, fall-at-most, needs-scoped, fall-bounded}
 
--- a group in the same mode has the same target, the same distance to it and the same first move
+-- a group in the same mode has the same number, but for what its first move needs
 module _ (m : Model) (plan state state′ : List ℕ) (masks : Masks) (k : ℕ)
     (same : present m plan state′ k ≡ present m plan state k) where
-  same-target : targetOf m plan state′ masks k ≡ targetOf m plan state masks k
-  unfolding targetOf nearest
-  same-target =
-      ap (λ p. find (λ q. allowed m (groups m plan) masks k q
-      && all (λ t. not (allowed m (groups m plan) masks k t)
-      || leb (entryAt m plan k p q .distance) (entryAt m plan k p t .distance)) (upTo (size m (groups m plan) k)))
-      (upTo (size m (groups m plan) k)) 0) same
-
-  same-entry : entryAt m plan k (present m plan state′ k) (targetOf m plan state′ masks k)
-      ≡ entryAt m plan k (present m plan state k) (targetOf m plan state masks k)
-  same-entry = ap₂ (entryAt m plan k) same same-target
-
   fall-same : (cost : ℕ → ℕ) (scope : List ℕ) → met (groups m plan) masks state′ k ≡ false
       → fall m plan cost state′ masks scope (suc k)
       ≡ (distanceTo m plan state k (targetOf m plan state masks k) - 1) * (1 + outsideCost m plan cost k)
       + suc (fall m plan cost state′ (needsOf m plan state masks k) (named m plan k) k + sumBelow cost k scope)
   fall-same cost scope f =
       fall-unmet m plan cost state′ masks scope k f
-      ∙ ap (λ e. (e .distance - 1) * (1 + outsideCost m plan cost k) + suc (needs e + sumBelow cost k scope)) same-entry
+      ∙ ap (λ e. (e .distance - 1) * (1 + outsideCost m plan cost k) + suc (needs e + sumBelow cost k scope))
+      (Following.same-entry m plan state state′ masks k same)
     where
       needs : Entry → ℕ
       needs e = fall m plan cost state′ (guardMasks m (groups m plan) k (moveAt m (e .move))) (named m plan k) k

@@ -1,12 +1,13 @@
 -- Fulfilling a goal, one turn at a time: the target of a group, the entry followed, and where each test leads.
 -- Assumes nothing.
 use Prim.Native.Nat.{ℕ, suc, _≤_, _<_}
-use mathlib.Core.Path.{_≡_, refl}
+use mathlib.Core.Path.{_≡_, refl, ap, ap₂}
 use mathlib.Core.Logic.{⊎-elim}
 use mathlib.Core.List.{List}
-use mathlib.Core.Bool.{true, false, not}
+use mathlib.Core.Bool.{true, false, not, _&&_, _||_}
 use borrow.Author.Tests.{leb-true, le-leb, lt-leb, eq-eqb, ne-eqb}
-use Rattle.common.specs.Lists.{upTo, any}
+use lib.Dec.{leb}
+use Rattle.common.specs.Lists.{upTo, all, any, find}
 use Rattle.common.specs.Reply.{Reply, given, refused, unless}
 use Rattle.common.proofs.Bools.{by-cases, true-false, not-of-true, not-of-false, and-intro, and-left, and-right}
 use Rattle.common.proofs.Bools.{or-cases, or-left, or-right, or-false-intro}
@@ -24,6 +25,21 @@ use Rattle.command.specs.Goal.{Masks, guardMasks, met, allowed}
 use Rattle.command.specs.Attainable.{groups, present}
 use Rattle.command.specs.Next.{Next, done, command, distanceTo, nearest, targetOf, holdsInside, holdsOutside}
 use Rattle.command.specs.Next.{unfit, prepareBy, followBy, fulfil}
+
+-- a group in the same mode has the same target and follows the same entry
+module _ (m : Model) (plan state state′ : List ℕ) (masks : Masks) (k : ℕ)
+    (same : present m plan state′ k ≡ present m plan state k) where
+  same-target : targetOf m plan state′ masks k ≡ targetOf m plan state masks k
+  unfolding targetOf nearest
+  same-target =
+      ap (λ p. find (λ q. allowed m (groups m plan) masks k q
+      && all (λ t. not (allowed m (groups m plan) masks k t)
+      || leb (entryAt m plan k p q .distance) (entryAt m plan k p t .distance)) (upTo (size m (groups m plan) k)))
+      (upTo (size m (groups m plan) k)) 0) same
+
+  pub same-entry : entryAt m plan k (present m plan state′ k) (targetOf m plan state′ masks k)
+      ≡ entryAt m plan k (present m plan state k) (targetOf m plan state masks k)
+  same-entry = ap₂ (entryAt m plan k) same same-target
 
 module _ (m : Model) (plan state : List ℕ) where
   -- The target: with an allowed mode at hand it is allowed, and none is nearer

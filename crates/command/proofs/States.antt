@@ -30,6 +30,16 @@ second-length (x ∷ []) n e = omega (arith, e)
 second-length (x ∷ y ∷ rest) zero e = omega (arith, e)
 second-length (x ∷ y ∷ rest) (suc n) e = ap suc (second-length rest n (omega (arith, e)))
 
+second-long : (s t : List ℕ) → length s ≡ length t → length (everySecond s) ≡ length (everySecond t)
+unfolding everySecond
+second-long [] [] e = refl
+second-long [] (y ∷ t) e = absurd (let f : ⊥ = omega (arith, e) in f)
+second-long (x ∷ s) [] e = absurd (let f : ⊥ = omega (arith, e) in f)
+second-long (x ∷ []) (y ∷ []) e = refl
+second-long (x ∷ []) (y ∷ b ∷ t) e = absurd (let f : ⊥ = omega (arith, e) in f)
+second-long (x ∷ a ∷ s) (y ∷ []) e = absurd (let f : ⊥ = omega (arith, e) in f)
+second-long (x ∷ a ∷ s) (y ∷ b ∷ t) e = ap suc (second-long s t (omega (arith, e)))
+
 second-set : (s : List ℕ) (i x : ℕ) → everySecond (set s (2 * i) x) ≡ set (everySecond s) i x
 unfolding everySecond
 second-set [] i x = refl
@@ -66,6 +76,10 @@ tag-place state i =
 pub length-modes : (state : List ℕ) (n : ℕ) → length state ≡ 2 * n → length (modes state) ≡ n
 unfolding modes
 length-modes state n e = second-length state n e
+
+pub modes-long : (state other : List ℕ) → length state ≡ length other → length (modes state) ≡ length (modes other)
+unfolding modes
+modes-long state other e = second-long state other e
 
 module _ (state : List ℕ) (i mode : ℕ) where
   pub modes-withMode : modes (withMode state i mode) ≡ set (modes state) i mode

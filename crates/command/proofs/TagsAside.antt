@@ -23,13 +23,12 @@ use Rattle.command.specs.Ancestors.{upstreamIn}
 use Rattle.command.specs.Attainable.{liveGroup, deadEnd, groupFaults, attainFaults}
 use Rattle.command.specs.TurnedDown.{StateFits}
 use Rattle.command.specs.Uncovered.{Concerns}
-use Rattle.command.specs.Tagless.{plainFulfil}
 use Rattle.command.specs.Tags.{Concerned, TagsAside}
 use Rattle.command.proofs.States.{length-modes}
 use Rattle.command.proofs.Asking.{misshapen-reply}
 use Rattle.command.proofs.Causes.{concern}
 use Rattle.command.proofs.Highest.{downTo-below}
-use Rattle.command.proofs.Tagless.{plain-fulfil}
+use Rattle.command.proofs.Tagless.{met-same, fulfil-same}
 use Rattle.command.proofs.TurnedDown.{state-judged}
 
 module _ (m : Model) (plan : List ℕ) (masks : Masks) (state other : List ℕ) (same : modes state ≡ modes other)
@@ -56,16 +55,12 @@ module _ (m : Model) (plan : List ℕ) (masks : Masks) (state other : List ℕ) 
     unfolding groupFaults deadEnd
     faults-same = rw (fun-ext hindered-same, same)
 
-  met-same : (k : ℕ) → met (groupsIn m plan) masks state k ≡ met (groupsIn m plan) masks other k
-  unfolding met
-  met-same k = rw same
-
   attain-same : attainFaults m plan state masks ≡ attainFaults m plan other masks
   unfolding attainFaults
   attain-same =
       flatMap-cong _ _ (downTo (groupCount (groupsIn m plan))) (λ k l. by-cases (met (groupsIn m plan) masks state k)
-      (λ t. rw (t, sym (met-same k) ∙ t))
-      (λ f. rw (f, sym (met-same k) ∙ f) (faults-same k (downTo-below _ l) f)))
+      (λ t. rw (t, sym (met-same m plan state other same masks k) ∙ t))
+      (λ f. rw (f, sym (met-same m plan state other same masks k) ∙ f) (faults-same k (downTo-below _ l) f)))
 
 -- states with the same modes have the same list of them
 modes-same : (m : Model) (state other : List ℕ) → StateFits m state → StateFits m other
@@ -83,7 +78,6 @@ tags-aside sheet plan state other goal d parses fits also modes-agree agree =
     state-judged sheet plan state goal d parses shaped fits
     ∙ ap₂ (λ later r. unless (goalFaults m goal ++ later) r)
     (attain-same m plan (goalMasks m goal) state other same agree)
-    (plain-fulfil m plan state _ _ ∙ ap (λ ms. plainFulfil m plan ms (goalMasks m goal) (groupCount (groupsIn m plan))) same
-    ∙ sym (plain-fulfil m plan other _ _))
+    (fulfil-same m plan state other same (goalMasks m goal) (groupCount (groupsIn m plan)))
     ∙ sym (state-judged sheet plan other goal d parses shaped also))
     (λ f. misshapen-reply sheet plan state goal d parses f ∙ sym (misshapen-reply sheet plan other goal d parses f))
