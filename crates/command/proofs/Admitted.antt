@@ -7,10 +7,10 @@ use mathlib.Core.Bool.{true}
 use Rattle.common.specs.Reply.{clear}
 use Rattle.sheet.specs.Model.{Model}
 use Rattle.sheet.specs.Valid.{Valid}
-use Rattle.plan.specs.Reading.{wellShaped}
+use Rattle.plan.specs.Reading.{wellShaped, everyMove}
 use Rattle.command.specs.State.{stateFaults}
 use Rattle.command.specs.Goal.{goalFaults, goalMasks}
-use Rattle.command.specs.Attainable.{attainFaults}
+use Rattle.command.specs.Attainable.{coverFaults}
 use Rattle.command.specs.Covered.{Admitted}
 use Rattle.command.proofs.Shape.{sound-state}
 use Rattle.command.proofs.Shown.{Small}
@@ -21,19 +21,19 @@ module _ (m : Model) (valid : Valid m) (plan : List ℕ) (shaped : wellShaped m 
     (state goal : List ℕ) where
   pub admitted-passes : Admitted m plan state goal
       → (clear (stateFaults m state) ≡ true) × (clear (goalFaults m goal) ≡ true)
-      × (clear (attainFaults m plan state (goalMasks m goal)) ≡ true)
+      × (clear (coverFaults m plan state (goalMasks m goal)) ≡ true)
   admitted-passes a =
       let fits = state-passes m state .1 (a .state-fits) in (
         fits,
         goal-passes m goal .1 (a .goal-fits),
-        covered-exactly m valid plan shaped small state (sound-state m state fits) _ .1 (a .covered),
+        covered-exactly m valid plan everyMove shaped small state (sound-state m state fits) _ .1 (a .covered),
       )
 
   pub passes-admitted : clear (stateFaults m state) ≡ true → clear (goalFaults m goal) ≡ true
-      → clear (attainFaults m plan state (goalMasks m goal)) ≡ true → Admitted m plan state goal
+      → clear (coverFaults m plan state (goalMasks m goal)) ≡ true → Admitted m plan state goal
   passes-admitted fits fine covers =
       record {
         state-fits = state-passes m state .0 fits;
         goal-fits = goal-passes m goal .0 fine;
-        covered = covered-exactly m valid plan shaped small state (sound-state m state fits) _ .0 covers;
+        covered = covered-exactly m valid plan everyMove shaped small state (sound-state m state fits) _ .0 covers;
       }

@@ -4,7 +4,7 @@ use Prim.Native.Nat.{ℕ, _≤_, zero-le}
 use mathlib.Core.Path.{_≡_, refl, sym, ap, _∙_}
 use mathlib.Core.Logic.{_↔_, _⊎_, inl, inr, ⊎-elim}
 use mathlib.Core.List.{List}
-use mathlib.Core.Bool.{true}
+use mathlib.Core.Bool.{Bool, true}
 use native.Mathlib.Nat.{le-refl}
 use native.Mathlib.Omega.{arith}
 use borrow.Author.Tests.{lt-ltb}
@@ -14,13 +14,12 @@ use Rattle.common.proofs.Clear.{each-clear}
 use Rattle.sheet.specs.Model.{machineCount, moveAt}
 use Rattle.sheet.specs.Valid.{Valid}
 use Rattle.sheet.specs.Parse.{Parsed, parse}
-use Rattle.plan.specs.Reading.{boundIn}
-use Rattle.plan.specs.Laws.{PlanLaws}
+use Rattle.plan.specs.Reading.{boundIn, everyMove}
 use Rattle.command.specs.State.{modeOf, withMode}
 use Rattle.command.specs.Goal.{goalFaults}
 use Rattle.command.specs.Goal.{goalMasks}
-use Rattle.command.specs.Attainable.{attainFaults}
-use Rattle.command.specs.Covered.{Covered, Admitted}
+use Rattle.command.specs.Attainable.{coverFaults}
+use Rattle.command.specs.Covered.{Attains, Safe, Covered, Admitted}
 use Rattle.command.specs.Next.{done, command, fulfil}
 use Rattle.command.specs.Method.{entryMove, PicksFor}
 use Rattle.command.specs.Apply.{Answers, applyReply, effectReply}
@@ -38,28 +37,32 @@ use Rattle.command.proofs.TurnedDown.{state-passes}
 use Rattle.command.proofs.Targets.{goal-leaves}
 use Rattle.command.proofs.Picked.{picks-move}
 use Rattle.command.proofs.Kept
-use Rattle.command.proofs.Kept.{count, Pends, Kept, toCome-bounded}
+use Rattle.command.proofs.Kept.{count, RunLaws, Pends, Kept, toCome-bounded}
 
 -- what a run stands on: a sheet that is read, a plan with the laws, a goal that passes 14
 pub record Ground (lent : Lent) (d : Parsed) (Usable : ℕ → Type 0) (longest cost : ℕ → ℕ) : Type 0 where
   pub parsed : parse (lent .sheet) ≡ given d
   pub valid : Valid (d .model)
-  pub laws : PlanLaws (d .model) (lent .plan) Usable longest cost
+  pub laws : RunLaws (d .model) (lent .plan) everyMove (Safe (d .model) (lent .plan)) Usable longest cost
   pub fine : clear (goalFaults (d .model) (lent .goal)) ≡ true
+
+-- what a run keeps, by the causes of next command
+abbrev pub KeptFor : Lent → Parsed → (ℕ → Type 0) → (ℕ → ℕ) → Situation → Type 0
+KeptFor lent d Usable cost = Kept (d .model) lent everyMove (Safe (d .model) (lent .plan)) Usable cost
 
 module _ {lent : Lent} {d : Parsed} {Usable : ℕ → Type 0} {longest cost : ℕ → ℕ}
     (ground : Ground lent d Usable longest cost) where
   -- the caller's goal is covered exactly where 16 to 18 pass
   covers : (state : List ℕ) → Sound (d .model) state
-      → (clear (attainFaults (d .model) (lent .plan) state (goalMasks (d .model) (lent .goal))) ≡ true)
-      ↔ Covered (d .model) (lent .plan) (goalMasks (d .model) (lent .goal)) state (count (d .model) lent)
+      → (clear (coverFaults (d .model) (lent .plan) state (goalMasks (d .model) (lent .goal))) ≡ true)
+      ↔ Covered (d .model) (lent .plan) everyMove (Attains (d .model) (lent .plan)) (Safe (d .model) (lent .plan)) (goalMasks (d .model) (lent .goal)) state (count (d .model) lent)
   covers state sound =
       let tables = ground .laws .tables in
-      Facts.covered-exactly (d .model) (ground .valid) (lent .plan) (tables .shaped) (tables .byte-entries) state sound _
+      Facts.covered-exactly (d .model) (ground .valid) (lent .plan) everyMove (tables .shaped) (tables .byte-entries) state sound _
 
   -- a run begins kept
   pub kept-begins : (state : List ℕ) → Admitted (d .model) (lent .plan) state (lent .goal)
-      → Kept (d .model) lent Usable cost (begins state)
+      → KeptFor lent d Usable cost (begins state)
   kept-begins state a =
       let sound = Facts.sound-state (d .model) state (state-passes (d .model) state .1 (a .state-fits)) in
       let bounded = toCome-bounded (d .model) lent (ground .valid) (ground .laws) (begins state) sound (a .covered) in
@@ -70,7 +73,7 @@ module _ {lent : Lent} {d : Parsed} {Usable : ℕ → Type 0} {longest cost : �
         pends = λ i c e. absurd (let z : _≡_ {A = ℕ} 0 1 = cc in let f : ⊥ = omega arith in f);
       }
 
-  module _ {s : Situation} (kept : Kept (d .model) lent Usable cost s) where
+  module _ {s : Situation} (kept : KeptFor lent d Usable cost s) where
     next-is : askReply lent (s .state)
         ≡ fulfil (d .model) (lent .plan) (s .state) (goalMasks (d .model) (lent .goal)) (count (d .model) lent)
     next-is =
@@ -101,7 +104,7 @@ module _ {lent : Lent} {d : Parsed} {Usable : ℕ → Type 0} {longest cost : �
             byte-is = refl;
           },
         ))
-        (Sends.done-or-commanded (ground .valid) (ground .laws .tables) (ground .laws .routes) (kept .sound) _ (le-refl _) _ (kept .covered))
+        (Sends.done-or-commanded (ground .valid) (ground .laws .tables) (ground .laws .safe) (kept .sound) _ (le-refl _) _ (kept .covered))
 
     -- a command that is replied is that of a move that is sent
     pub replied : (i c : ℕ) → askReply lent (s .state) ≡ given (command i c)

@@ -3,11 +3,12 @@
 use Prim.Native.Nat.{ℕ, _≤_}
 use mathlib.Core.Path.{_≡_, sym, subst}
 use mathlib.Core.List.{List, [], _∷_, _++_, append-nil}
+use mathlib.Core.Bool.{Bool}
 use native.Mathlib.Omega.{arith}
 use Rattle.common.specs.Reply.{given}
 use Rattle.sheet.specs.Valid.{Valid}
 use Rattle.sheet.specs.Parse.{Parsed, parse}
-use Rattle.plan.specs.Reading.{boundIn}
+use Rattle.plan.specs.Reading.{boundIn, everyMove}
 use Rattle.plan.specs.Laws.{PlanLaws}
 use Rattle.command.specs.State.{tagOf}
 use Rattle.command.specs.Covered.{Admitted}
@@ -16,9 +17,9 @@ use Rattle.sheet.proofs.Parsed.{parse-valid}
 use Rattle.plan.proofs.Planned.{planned-lawful}
 use Rattle.command.specs.Arrival.{Arrival, ArrivalOfLaws, AsWishedFrom, Reached, Asked, Moved, Promise}
 use Rattle.command.proofs.TurnedDown.{goal-passes}
-use Rattle.command.proofs.Kept.{Kept}
+use Rattle.command.proofs.Safe.{safe-laws}
 use Rattle.command.proofs.Answers
-use Rattle.command.proofs.Answers.{Ground}
+use Rattle.command.proofs.Answers.{Ground, KeptFor}
 use Rattle.command.proofs.Calls
 use Rattle.command.proofs.Calls.{Keeps, pending-some, afterAll-append}
 
@@ -30,11 +31,11 @@ module _ {lent : Lent} {d : Parsed} {Usable : ℕ → Type 0} {longest cost : �
   abbrev now : List Call → Situation
   now before = afterAll lent (begins state) before
 
-  start : Kept (d .model) lent Usable cost (begins state)
+  start : KeptFor lent d Usable cost (begins state)
   start = Answers.kept-begins ground state admitted
 
   through : (before later : List Call) → calls ≡ before ++ later
-      → Keeps (d .model) lent Usable cost (begins state) (now before)
+      → Keeps lent d Usable cost (begins state) (now before)
       × Run lent (now before) later
   through before later e =
       Calls.keeps-all ground start before later
@@ -85,7 +86,7 @@ module _ {lent : Lent} {d : Parsed} {Usable : ℕ → Type 0} {longest cost : �
 pub arrival-of-laws :
     (lent : Lent) (state : List ℕ) (d : Parsed) (Usable : ℕ → Type 0) (longest cost : ℕ → ℕ)
     → parse (lent .sheet) ≡ given d → Valid (d .model)
-    → PlanLaws (d .model) (lent .plan) Usable longest cost
+    → PlanLaws (d .model) (lent .plan) everyMove Usable longest cost
     → Admitted (d .model) (lent .plan) state (lent .goal)
     → (calls : List Call) → Run lent (begins state) calls
     → Promise lent (d .model) (begins state) calls
@@ -93,7 +94,7 @@ arrival-of-laws lent state d Usable longest cost parsed valid laws admitted call
     promised (record {
       parsed = parsed;
       valid = valid;
-      laws = laws;
+      laws = record { tables = laws .tables; safe = safe-laws valid (laws .tables) (laws .routes); costs = laws .costs };
       fine = goal-passes (d .model) (lent .goal) .1 (admitted .goal-fits);
     }) state admitted calls run
 

@@ -17,7 +17,7 @@ use Rattle.plan.specs.Reading.{groupsIn, wellShaped}
 use Rattle.command.specs.State.{stateFaults}
 use Rattle.command.specs.Goal.{goalFaults}
 use Rattle.command.specs.Goal.{goalMasks}
-use Rattle.command.specs.Attainable.{attainFaults}
+use Rattle.command.specs.Attainable.{coverFaults}
 use Rattle.command.specs.Next.{done, command, fulfil, goalRefusals, misshapen, nextReply}
 
 -- two replies of next command
@@ -28,7 +28,7 @@ done-not-command e = let z : _≡_ {A = ℕ} 0 1 = cc in omega arith
 module _ (m : Model) (plan state goal : List ℕ) where
   pub refusals-parts : clear (goalRefusals m plan state goal) ≡ true
       → (clear (stateFaults m state) ≡ true) × (clear (goalFaults m goal) ≡ true)
-      × (clear (attainFaults m plan state (goalMasks m goal)) ≡ true)
+      × (clear (coverFaults m plan state (goalMasks m goal)) ≡ true)
   unfolding goalRefusals
   refusals-parts h =
       let both = sym (clear-append (stateFaults m state ++ goalFaults m goal) _) ∙ h in
@@ -40,7 +40,7 @@ module _ (m : Model) (plan state goal : List ℕ) where
 
   -- where 13 and 14 pass, 16 to 18 alone are left
   pub refusals-left : {A : Type 0} (r : Reply A) → clear (stateFaults m state) ≡ true → clear (goalFaults m goal) ≡ true
-      → unless (goalRefusals m plan state goal) r ≡ unless (attainFaults m plan state (goalMasks m goal)) r
+      → unless (goalRefusals m plan state goal) r ≡ unless (coverFaults m plan state (goalMasks m goal)) r
   unfolding goalRefusals
   refusals-left r state-good goal-good =
       unless-append-clear (stateFaults m state ++ goalFaults m goal) _ r
@@ -66,14 +66,14 @@ module _ (sheet plan state goal : List ℕ) (d : Parsed) (parses : parse sheet �
     (goal-good : clear (goalFaults (d .model) goal) ≡ true) where
   -- 16 to 18 alone are left
   pub next-reply : nextReply sheet plan state goal
-      ≡ unless (attainFaults (d .model) plan state (goalMasks (d .model) goal))
+      ≡ unless (coverFaults (d .model) plan state (goalMasks (d .model) goal))
       (fulfil (d .model) plan state (goalMasks (d .model) goal) (groupCount (groupsIn (d .model) plan)))
   next-reply =
       shaped-reply sheet plan state goal d parses shaped
       ∙ refusals-left (d .model) plan state goal _ state-good goal-good
 
   -- and where they do not apply, fulfilling the goal replies
-  pub next-fulfils : clear (attainFaults (d .model) plan state (goalMasks (d .model) goal)) ≡ true
+  pub next-fulfils : clear (coverFaults (d .model) plan state (goalMasks (d .model) goal)) ≡ true
       → nextReply sheet plan state goal
       ≡ fulfil (d .model) plan state (goalMasks (d .model) goal) (groupCount (groupsIn (d .model) plan))
-  next-fulfils h = next-reply ∙ unless-clear _ _ (clear-each (attainFaults (d .model) plan state (goalMasks (d .model) goal)) h)
+  next-fulfils h = next-reply ∙ unless-clear _ _ (clear-each (coverFaults (d .model) plan state (goalMasks (d .model) goal)) h)

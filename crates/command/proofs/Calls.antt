@@ -3,6 +3,7 @@
 use Prim.Native.Nat.{ℕ, suc}
 use mathlib.Core.Path.{_≡_, refl, sym, ap, subst, _∙_}
 use mathlib.Core.List.{List, [], _∷_, _++_}
+use mathlib.Core.Bool.{Bool}
 use native.Mathlib.Omega.{arith}
 use Rattle.common.specs.Reply.{Reply, given, refused}
 use Rattle.sheet.specs.Model.{Model, moveAt}
@@ -15,9 +16,9 @@ use Rattle.command.specs.Run.{pendingOf, IsRefused, IsPending, appliedBy
 use Rattle.command.specs.Arrival.{AsWishedFrom}
 use Rattle.command.proofs.States.{tag-kept}
 use Rattle.command.proofs.Kept
-use Rattle.command.proofs.Kept.{Pends, Kept, movedBy}
+use Rattle.command.proofs.Kept.{Pends, movedBy}
 use Rattle.command.proofs.Answers
-use Rattle.command.proofs.Answers.{Ground}
+use Rattle.command.proofs.Answers.{Ground, KeptFor}
 
 pub pending-some : (p : Pending) → IsPending p → (i : ℕ) × (c : ℕ) × (p ≡ some i c)
 pending-some none h = absurd h
@@ -58,18 +59,18 @@ afterAll-append lent s (c ∷ xs) ys = afterAll-append lent (after lent s c) xs 
 
 -- from one situation to another: what a run keeps is kept, all groups from g upward that were as wished are so, and the
 -- tags are the same
-module _ (m : Model) (lent : Lent) (Usable : ℕ → Type 0) (cost : ℕ → ℕ) where
+module _ (lent : Lent) (d : Parsed) (Usable : ℕ → Type 0) (cost : ℕ → ℕ) where
   pub record Keeps (s t : Situation) : Type 0 where
-    pub kept : Kept m lent Usable cost t
-    pub wished : (g : ℕ) → AsWishedFrom lent m (s .state) g → AsWishedFrom lent m (t .state) g
+    pub kept : KeptFor lent d Usable cost t
+    pub wished : (g : ℕ) → AsWishedFrom lent (d .model) (s .state) g → AsWishedFrom lent (d .model) (t .state) g
     pub same-tags : (i : ℕ) → tagOf (t .state) i ≡ tagOf (s .state) i
 
 module _ {lent : Lent} {d : Parsed} {Usable : ℕ → Type 0} {longest cost : ℕ → ℕ}
     (ground : Ground lent d Usable longest cost) where
   abbrev KeepsTo : Situation → Situation → Type 0
-  KeepsTo = Keeps (d .model) lent Usable cost
+  KeepsTo = Keeps lent d Usable cost
 
-  apply-moves : (s : Situation) → Kept (d .model) lent Usable cost s → (i c : ℕ) → s .pending ≡ some i c
+  apply-moves : (s : Situation) → KeptFor lent d Usable cost s → (i c : ℕ) → s .pending ≡ some i c
       → (p : Pends (d .model) lent Usable (s .state) i c)
       → after lent s apply ≡ movedBy (d .model) s (p .move)
   apply-moves s kept i c e p =
@@ -77,7 +78,7 @@ module _ {lent : Lent} {d : Parsed} {Usable : ℕ → Type 0} {longest cost : �
       after-apply lent s i c _ _ e (Answers.applies-pending ground kept p)
       ∙ ap (λ x. record { state = withMode (s .state) x to; pending = none; applied = suc (s .applied) }) (p .machine-is)
 
-  keeps-apply : (s : Situation) → Kept (d .model) lent Usable cost s → (i c : ℕ) → s .pending ≡ some i c
+  keeps-apply : (s : Situation) → KeptFor lent d Usable cost s → (i c : ℕ) → s .pending ≡ some i c
       → KeepsTo s (after lent s apply)
   keeps-apply s kept i c e =
       let p = kept .pends i c e in
@@ -88,7 +89,7 @@ module _ {lent : Lent} {d : Parsed} {Usable : ℕ → Type 0} {longest cost : �
         same-tags = tag-kept (s .state) _ _;
       })
 
-  keeps-call : (s : Situation) → Kept (d .model) lent Usable cost s → (c : Call) → Legal lent s c
+  keeps-call : (s : Situation) → KeptFor lent d Usable cost s → (c : Call) → Legal lent s c
       → KeepsTo s (after lent s c)
   unfolding after
   keeps-call s kept ask h =
@@ -113,7 +114,7 @@ module _ {lent : Lent} {d : Parsed} {Usable : ℕ → Type 0} {longest cost : �
       (record { kept = kept; wished = λ g w. w; same-tags = λ i. refl })
 
   -- through the first calls of a run; the others are a run from there
-  pub keeps-all : {s : Situation} → Kept (d .model) lent Usable cost s → (before later : List Call)
+  pub keeps-all : {s : Situation} → KeptFor lent d Usable cost s → (before later : List Call)
       → Run lent s (before ++ later)
       → KeepsTo s (afterAll lent s before) × Run lent (afterAll lent s before) later
   unfolding afterAll

@@ -4,7 +4,7 @@ use Prim.Native.Nat.{ℕ, _<_}
 use mathlib.Core.Path.{_≡_, refl, sym, ap, _∙_}
 use mathlib.Core.Logic.{⊎-elim}
 use mathlib.Core.List.{List, [], _∷_, List·Memᴰ}
-use mathlib.Core.Bool.{true, false}
+use mathlib.Core.Bool.{Bool, true, false}
 use native.Mathlib.Omega.{arith}
 use borrow.Author.Tests.{eqb-true, eqb-false, eq-eqb}
 use lib.Dec.{eqb}
@@ -200,11 +200,11 @@ module _ (m : Model) (valid : Valid m) (plan : List ℕ) (shaped : wellShaped m 
           (mem-or-not a (namedOutside m own k (v ∷ [])))
 
       -- and if the move counts, that group is upstream of k
-      pub unmet-upstream : List·Memᴰ v (counted m plan k) → (a : ℕ)
+      pub unmet-upstream : (counts : ℕ → Bool) → List·Memᴰ v (counted m plan counts k) → (a : ℕ)
           → met (groupsIn m plan) (guardMasks m (groupsIn m plan) k (moveAt m v)) state a ≡ false
-          → upstreamIn m plan k a ≡ true
-      unmet-upstream counts a unmet =
-          named-upstream m valid plan shaped k a (named-of-move m own k counts (unmet-named a unmet))
+          → upstreamIn m plan counts k a ≡ true
+      unmet-upstream counts among a unmet =
+          named-upstream m valid plan counts shaped k a (named-of-move m own k among (unmet-named a unmet))
           (move-below m valid plan shaped k v member)
 
       -- a need that fails leaves a lower group unmet

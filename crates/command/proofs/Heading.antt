@@ -3,7 +3,7 @@
 use Prim.Native.Nat.{ℕ, zero, suc, _≤_, _<_}
 use mathlib.Core.Path.{_≡_, refl, ap, _∙_}
 use mathlib.Core.List.{List, List·Memᴰ}
-use mathlib.Core.Bool.{true, false}
+use mathlib.Core.Bool.{Bool, true, false}
 use native.Mathlib.Omega.{arith}
 use Rattle.common.proofs.Bools.{true-false}
 use Rattle.sheet.specs.Model.{Model, moveAt}
@@ -12,24 +12,32 @@ use Rattle.plan.specs.Groups.{groupCount, movesOf}
 use Rattle.plan.specs.Modes.{size}
 use Rattle.plan.specs.Usable.{leads, endMode}
 use Rattle.plan.specs.Reading.{entryAt}
-use Rattle.plan.specs.Laws.{IsDistance, TableLaws, RouteLaws}
+use Rattle.plan.specs.Laws.{IsDistance, TableLaws}
 use Rattle.command.specs.Goal.{Masks, guardMasks, met, allowed}
 use Rattle.command.specs.Ancestors.{upstreamIn}
 use Rattle.command.specs.Attainable.{groups, present, liveGroup}
-use Rattle.command.specs.Covered.{Covered, Attains, Safe}
+use Rattle.command.specs.Covered.{Covered, Attains}
 use Rattle.command.specs.Next.{targetOf, unfit}
 use Rattle.command.proofs.Facts
 use Rattle.command.proofs.Facts.{Sound}
-use Rattle.command.proofs.Safe.{safe-attains, safe-of-live}
+use Rattle.command.proofs.Safe.{SafeLaws}
 use Rattle.command.proofs.Following
 use Rattle.command.proofs.Following.{firstMove}
 use Rattle.plan.proofs.Named.{moves-below, moves-group}
-use Rattle.plan.proofs.Counted.{usable-counts}
-use Rattle.plan.specs.Reading.{groupsIn}
+use Rattle.plan.proofs.Counted.{moves-counted}
+use Rattle.plan.specs.Reading.{groupsIn, counted}
+
+-- a usable move is one of those that count
+pub usable-counted : {m : Model} {plan : List ℕ} {counts : ℕ → Bool} {Usable : ℕ → Type 0} {longest : ℕ → ℕ} → Valid m
+    → TableLaws m plan counts Usable longest → (k : ℕ) {v : ℕ} → List·Memᴰ v (movesOf m (groups m plan) k) → Usable v
+    → List·Memᴰ v (counted m plan counts k)
+usable-counted {m} {plan} {counts} valid tables k {v} member usable =
+    moves-counted m plan counts k member
+    (tables .usable-counts v (moves-below m (groupsIn m plan) k member) usable)
 
 -- the groups upstream of k are live
-abbrev pub UpstreamLive : Model → List ℕ → List ℕ → ℕ → Type 0
-UpstreamLive m plan state k = (a : ℕ) → upstreamIn m plan k a ≡ true → liveGroup m plan state a ≡ true
+abbrev pub UpstreamLive : Model → List ℕ → (ℕ → Bool) → List ℕ → ℕ → Type 0
+UpstreamLive m plan counts state k = (a : ℕ) → upstreamIn m plan counts k a ≡ true → liveGroup m plan state a ≡ true
 
 module _ (m : Model) (plan : List ℕ) (Usable : ℕ → Type 0) (state : List ℕ) where
   -- the entry of group k toward its target: a route of `later` + 1 moves, and what is known of its first move
@@ -45,8 +53,8 @@ module _ (m : Model) (plan : List ℕ) (Usable : ℕ → Type 0) (state : List �
         entryAt m plan k (endMode m (groups m plan) k (moveAt m (firstMove m plan state masks k)) (present m plan state k))
         (targetOf m plan state masks k) .distance ≤ later
 
-module _ {m : Model} {plan : List ℕ} {Usable : ℕ → Type 0} {longest : ℕ → ℕ} (valid : Valid m)
-    (tables : TableLaws m plan Usable longest) {state : List ℕ} (sound : Sound m state) where
+module _ {m : Model} {plan : List ℕ} {counts : ℕ → Bool} {Usable : ℕ → Type 0} {longest : ℕ → ℕ} (valid : Valid m)
+    (tables : TableLaws m plan counts Usable longest) {state : List ℕ} (sound : Sound m state) where
   abbrev N : ℕ
   N = groupCount (groups m plan)
 
@@ -111,29 +119,29 @@ module _ {m : Model} {plan : List ℕ} {Usable : ℕ → Type 0} {longest : ℕ 
 
     -- a usable move counts: a group that its needs leave unmet is upstream of its own
     module _ (usable : Usable v) where
-      pub unmet-up : (a : ℕ) → met (groups m plan) needs state a ≡ false → upstreamIn m plan k a ≡ true
+      pub unmet-up : (a : ℕ) → met (groups m plan) needs state a ≡ false → upstreamIn m plan counts k a ≡ true
       unmet-up =
-          Facts.unmet-upstream m valid plan (tables .shaped) k v member state sound
-          (usable-counts m plan k Usable member usable)
+          Facts.unmet-upstream m valid plan (tables .shaped) k v member state sound counts
+          (usable-counted valid tables k member usable)
 
-      unmet-up-up : (a b : ℕ) → met (groups m plan) needs state a ≡ false → upstreamIn m plan a b ≡ true
-          → upstreamIn m plan k b ≡ true
-      unmet-up-up a b unmet u = Facts.upstream-trans m valid plan (tables .shaped) k a b (unmet-up a unmet) u
+      unmet-up-up : (a b : ℕ) → met (groups m plan) needs state a ≡ false → upstreamIn m plan counts a b ≡ true
+          → upstreamIn m plan counts k b ≡ true
+      unmet-up-up a b unmet u = Facts.upstream-trans m valid plan counts (tables .shaped) k a b (unmet-up a unmet) u
 
       -- and its needs are covered
-      module _ (routes : RouteLaws m plan Usable) (live : UpstreamLive m plan state k) where
-        up-safe : (a : ℕ) → upstreamIn m plan k a ≡ true → Safe m plan needs a (present m plan state a)
+      module _ {S : Masks → ℕ → ℕ → Type 0} (safe : SafeLaws m plan Usable S) (live : UpstreamLive m plan counts state k) where
+        up-safe : (a : ℕ) → upstreamIn m plan counts k a ≡ true → S needs a (present m plan state a)
         up-safe a u =
-            safe-of-live valid tables routes k member usable a _ (Facts.upstream-below m valid plan (tables .shaped) k a u)
+            safe .safe-of-live k v a _ member usable (Facts.upstream-below m valid plan counts (tables .shaped) k a u)
             (Facts.present-below m valid plan (tables .shaped) state sound a)
             (Facts.live-mode m valid plan (tables .shaped) state sound a (live a u))
 
-        pub needs-covered : Covered m plan needs state k
+        pub needs-covered : Covered m plan counts (Attains m plan) S needs state k
         needs-covered =
             record {
               itself-live = λ a h unmet. live a (unmet-up a unmet);
               upstream-live = λ a b h unmet u. live b (unmet-up-up a b unmet u);
-              attains = λ a h unmet. safe-attains valid tables a _ (omega (arith, k-below))
+              attains = λ a h unmet. safe .safe-attains needs a _ (omega (arith, k-below))
                   (Facts.present-below m valid plan (tables .shaped) state sound a) (up-safe a (unmet-up a unmet));
               no-dead-end = λ a b h unmet u. up-safe b (unmet-up-up a b unmet u);
             }

@@ -23,7 +23,7 @@ use Rattle.plan.proofs.Modes.{member-below, member-of}
 use Rattle.plan.proofs.Named.{group-below-count}
 use Rattle.command.specs.Goal.{Masks, met}
 use Rattle.common.specs.Lists.{downTo}
-use Rattle.command.specs.Attainable.{attainFaults}
+use Rattle.command.specs.Attainable.{attainFaults, coverFaults}
 use Rattle.command.specs.Next.{done, followBy, fulfil}
 use Rattle.command.specs.Kept.Question.{Placed, GroupsOnly, UnmetSet}
 use Rattle.command.proofs.GroupVerdict.{Top}
@@ -58,7 +58,7 @@ module _ {m : Model} {plan state numbers : List ℕ} (p : Placed m plan state nu
 
   -- none
   pub none-left : left ≡ 0
-      → given done ≡ unless (attainFaults m plan state goal) (fulfil m plan state goal (groupCount (groupsIn m plan)))
+      → given done ≡ unless (coverFaults m plan state goal) (fulfil m plan state goal (groupCount (groupsIn m plan)))
   unfolding attainFaults
   none-left z =
       let each : (k : ℕ) → k < count → met own goal state k ≡ true = λ k h. others-met k h (rw z (bit-none k)) in

@@ -29,46 +29,46 @@ use Rattle.command.proofs.Shape.{few-groups}
 use Rattle.command.proofs.Naming.{names-count, names-upstream, names-below, upstream-named}
 use Rattle.command.proofs.Upstream.{upstream-below, upstream-count, upstream-trans}
 
-module _ (m : Model) (valid : Valid m) (plan : List ℕ) (shaped : wellShaped m plan ≡ true) where
+module _ (m : Model) (valid : Valid m) (plan : List ℕ) (counts : ℕ → Bool) (shaped : wellShaped m plan ≡ true) where
   module _ (groups : ℕ) where
     -- nothing is marked before it
     pub marked-none : {top : ℕ} → ((k : ℕ) → bit groups k ≡ true → k < groupCount (groupsIn m plan) → k < top)
-        → MarkedFrom m plan groups top 0
+        → MarkedFrom m plan counts groups top 0
     marked-none low =
         record {
           final = λ a h. (
             λ t. absurd (true-false t (bit-none a)),
             λ (b, of, u).
-                let l = low b of (upstream-count m valid plan shaped b a u) in
-                absurd (let f : ⊥ = omega (arith, upstream-below m valid plan shaped b a u) in f),
+                let l = low b of (upstream-count m valid plan counts shaped b a u) in
+                absurd (let f : ⊥ = omega (arith, upstream-below m valid plan counts shaped b a u) in f),
           );
           so-far = λ a h. (
             λ t. absurd (true-false t (bit-none a)),
             λ (c, l, on, names).
                 ⊎-elim
                 (λ e. absurd (true-false e (bit-none c)))
-                (λ of. let k = low c of (names-count m valid plan shaped c a names) in absurd (let f : ⊥ = omega arith in f))
+                (λ of. let k = low c of (names-count m valid plan counts shaped c a names) in absurd (let f : ⊥ = omega arith in f))
                 (or-cases (bit 0 c) (bit groups c) on),
           );
         }
 
-    module _ {j s : ℕ} (k : MarkedFrom m plan groups j s) (some : 0 < j) where
+    module _ {j s : ℕ} (k : MarkedFrom m plan counts groups j s) (some : 0 < j) where
       abbrev i : ℕ
       i = j - 1
 
       -- the next group down is marked where it is upstream of one: only groups that have been passed can name it
-      next-final : (bit s i ≡ true) ↔ ((b : ℕ) × (bit groups b ≡ true) × (upstreamIn m plan b i ≡ true))
+      next-final : (bit s i ≡ true) ↔ ((b : ℕ) × (bit groups b ≡ true) × (upstreamIn m plan counts b i ≡ true))
       next-final = (
         λ t.
             let (c, h, on, names) = k .so-far i (omega arith) .0 t in
-            let up = names-upstream m valid plan shaped c i names in
+            let up = names-upstream m valid plan counts shaped c i names in
             ⊎-elim
-            (λ e. let (b, of, u) = k .final c h .0 e in (b, of, upstream-trans m valid plan shaped b c i u up))
+            (λ e. let (b, of, u) = k .final c h .0 e in (b, of, upstream-trans m valid plan counts shaped b c i u up))
             (λ of. (c, of, up))
             (or-cases (bit s c) (bit groups c) on),
         λ (b, of, u).
-            let (c, way, names) = upstream-named m valid plan shaped b i u in
-            let low = names-below m valid plan shaped c i names in
+            let (c, way, names) = upstream-named m valid plan counts shaped b i u in
+            let low = names-below m valid plan counts shaped c i names in
             let h : j ≤ c = omega arith in
             let on = ⊎-elim
             (λ e. or-right (bit s c) (rw e of))
@@ -77,8 +77,8 @@ module _ (m : Model) (valid : Valid m) (plan : List ℕ) (shaped : wellShaped m 
             k .so-far i (omega arith) .1 (c, h, on, names),
       )
 
-      module _ {named : List ℕ} (by : NamedBy m plan named) (few : j ≤ 32) where
-        named-bit : (a : ℕ) → (bit (getD named i 0) a ≡ true) ↔ Names m plan i a
+      module _ {named : List ℕ} (by : NamedBy m plan counts named) (few : j ≤ 32) where
+        named-bit : (a : ℕ) → (bit (getD named i 0) a ≡ true) ↔ Names m plan counts i a
         named-bit a = (
           λ t.
               let (x, x-in, e) = any-some (eqb a) _ (sym (by .bits i a (omega arith)) ∙ t) in
@@ -96,7 +96,7 @@ module _ (m : Model) (valid : Valid m) (plan : List ℕ) (shaped : wellShaped m 
               ⊎-elim
               (λ e. e)
               (λ e.
-              let low = names-below m valid plan shaped i a (named-bit a .0 (and-right (bit s i || bit groups i) _ e)) in
+              let low = names-below m valid plan counts shaped i a (named-bit a .0 (and-right (bit s i || bit groups i) _ e)) in
               absurd (let f : ⊥ = omega arith in f))
               (or-cases (bit s a) _ t))
               (λ e. or-left _ e)
@@ -104,7 +104,7 @@ module _ (m : Model) (valid : Valid m) (plan : List ℕ) (shaped : wellShaped m 
           same-on : (c : ℕ) → i ≤ c → bit t c || bit groups c ≡ (bit s c || bit groups c)
           same-on c h = rw (same c h)
 
-          pub marked-next : MarkedFrom m plan groups i t
+          pub marked-next : MarkedFrom m plan counts groups i t
           marked-next =
               record {
                 final = λ a h.
@@ -138,8 +138,8 @@ module _ (m : Model) (valid : Valid m) (plan : List ℕ) (shaped : wellShaped m 
 -- from the marks at top the pass has come to marks s at number j, for each sheet and plan whose groups name each other so
 abbrev pub Goes : (named : List ℕ) (groups marks top j s : ℕ) → Type 0
 Goes named groups marks top j s =
-    (m : Model) (plan : List ℕ) (all : ℕ) → Valid m → wellShaped m plan ≡ true → NamedBy m plan named
-    → ((a : ℕ) → a < top → bit groups a ≡ bit all a) → MarkedFrom m plan all top marks → MarkedFrom m plan all j s
+    (m : Model) (plan : List ℕ) (counts : ℕ → Bool) (all : ℕ) → Valid m → wellShaped m plan ≡ true → NamedBy m plan counts named
+    → ((a : ℕ) → a < top → bit groups a ≡ bit all a) → MarkedFrom m plan counts all top marks → MarkedFrom m plan counts all j s
 
 -- as the loop keeps it
 pub record Pass (named : List ℕ) (groups marks top j s : ℕ) : Type 0 where
@@ -148,7 +148,7 @@ pub record Pass (named : List ℕ) (groups marks top j s : ℕ) : Type 0 where
 
 module _ {named : List ℕ} {groups marks top : ℕ} where
   pub pass-start : Pass named groups marks top top marks
-  pass-start = record { few = omega arith; goes = λ m plan all valid shaped by same k. k }
+  pass-start = record { few = omega arith; goes = λ m plan counts all valid shaped by same k. k }
 
   module _ (most : top ≤ 32) {j s : ℕ} (p : Pass named groups marks top j s) (some : 0 < j) where
     next : (t : ℕ) → ((a : ℕ) → bit t a ≡ (bit s a || (bit (union s groups) (j - 1) && bit (getD named (j - 1) 0) a)))
@@ -156,8 +156,8 @@ module _ {named : List ℕ} {groups marks top : ℕ} where
     next t bits =
         record {
           few = omega (arith, p .few);
-          goes = λ m plan all valid shaped by same k.
-              marked-next m valid plan shaped all (p .goes m plan all valid shaped by same k) some by
+          goes = λ m plan counts all valid shaped by same k.
+              marked-next m valid plan counts shaped all (p .goes m plan counts all valid shaped by same k) some by
               (omega (arith, p .few)) t
               (rw (bit-union, same (j - 1) (omega (arith, p .few))) at bits);
         }
@@ -173,27 +173,27 @@ module _ {named : List ℕ} {groups marks top : ℕ} where
   pass-end {j} p end = let zero-there : j ≡ 0 = omega arith in rw zero-there at (p .goes)
 
 -- A pass from the highest number: what is upstream of some groups
-pub some-end : {named : List ℕ} {groups s : ℕ} → Goes named groups 0 32 0 s → (m : Model) (plan : List ℕ) → Valid m
-    → wellShaped m plan ≡ true → NamedBy m plan named → UpstreamOfSome m plan groups s
-some-end {named} {groups} {s} goes m plan valid shaped by =
+pub some-end : {named : List ℕ} {groups s : ℕ} → Goes named groups 0 32 0 s → (m : Model) (plan : List ℕ) (counts : ℕ → Bool) → Valid m
+    → wellShaped m plan ≡ true → NamedBy m plan counts named → UpstreamOfSome m plan counts groups s
+some-end {named} {groups} {s} goes m plan counts valid shaped by =
     record {
       bits = λ only a.
           bool-ext
           (λ t.
           let (b, of, u) = told .final a zero-le .0 t in
-          let below = upstream-count m valid plan shaped b a u in
+          let below = upstream-count m valid plan counts shaped b a u in
           let few : b < 32 = omega (arith, few-groups m valid plan shaped) in
-          any-intro (λ k. bit groups k && upstreamIn m plan k a) {x = b} (upTo-mem {i = b} few)
-          (and-intro {a = bit groups b} {b = upstreamIn m plan b a} of u))
+          any-intro (λ k. bit groups k && upstreamIn m plan counts k a) {x = b} (upTo-mem {i = b} few)
+          (and-intro {a = bit groups b} {b = upstreamIn m plan counts b a} of u))
           (λ t.
           let (b, b-in, both) = any-some _ (upTo 32) t in
           told .final a zero-le .1 (b, and-left _ _ both, and-right (bit groups b) _ both));
     }
   where
-    told : MarkedFrom m plan groups 0 s
+    told : MarkedFrom m plan counts groups 0 s
     told =
-        goes m plan groups valid shaped by (λ a h. refl)
-        (marked-none m valid plan shaped groups (λ k t h. omega (arith, few-groups m valid plan shaped)))
+        goes m plan counts groups valid shaped by (λ a h. refl)
+        (marked-none m valid plan counts shaped groups (λ k t h. omega (arith, few-groups m valid plan shaped)))
 
 -- A pass that has been at group k: what is upstream of it
 module _ (k : ℕ) where
@@ -203,21 +203,21 @@ module _ (k : ℕ) where
   itself : bit (alone k) k ≡ true
   itself = bit-alone k k ∙ eq-eqb k k refl
 
-  module _ (m : Model) (valid : Valid m) (plan : List ℕ) (shaped : wellShaped m plan ≡ true) where
+  module _ (m : Model) (valid : Valid m) (plan : List ℕ) (counts : ℕ → Bool) (shaped : wellShaped m plan ≡ true) where
     -- what the group names is marked then
-    one-start : {named : List ℕ} → NamedBy m plan named → k < 32 → MarkedFrom m plan (alone k) k (getD named k 0)
+    one-start : {named : List ℕ} → NamedBy m plan counts named → k < 32 → MarkedFrom m plan counts (alone k) k (getD named k 0)
     one-start {named} by few =
         let last : suc k - 1 ≡ k = omega arith in
         rw last at
-        (marked-next m valid plan shaped (alone k) {j = suc k}
-        (marked-none m valid plan shaped (alone k) (λ b t h. let e = own b t in omega arith)) (omega arith) by (omega arith)
+        (marked-next m valid plan counts shaped (alone k) {j = suc k}
+        (marked-none m valid plan counts shaped (alone k) (λ b t h. let e = own b t in omega arith)) (omega arith) by (omega arith)
         (getD named k 0)
         (λ a. rw (last, bit-none a, or-right (bit 0 k) itself)))
 
 pub one-end : {named : List ℕ} {k g s : ℕ} → k ≡ g → g < 32 → Goes named 0 (getD named k 0) k 0 s
-    → (m : Model) (plan : List ℕ) → Valid m → wellShaped m plan ≡ true → g < groupCount (groupsIn m plan)
-    → NamedBy m plan named → UpstreamSet m plan g s
-one-end {named} {k} {g} {s} same few goes m plan valid shaped there by =
+    → (m : Model) (plan : List ℕ) (counts : ℕ → Bool) → Valid m → wellShaped m plan ≡ true → g < groupCount (groupsIn m plan)
+    → NamedBy m plan counts named → UpstreamSet m plan counts g s
+one-end {named} {k} {g} {s} same few goes m plan counts valid shaped there by =
     record {
       bits = λ a.
           rw (← same)
@@ -226,7 +226,7 @@ one-end {named} {k} {g} {s} same few goes m plan valid shaped there by =
           (λ u. told .final a zero-le .1 (k, itself k, u)));
     }
   where
-    told : MarkedFrom m plan (alone k) 0 s
+    told : MarkedFrom m plan counts (alone k) 0 s
     told =
-        goes m plan (alone k) valid shaped by (λ a h. bit-none a ∙ sym (bit-alone k a ∙ ne-eqb k a (omega arith)))
-        (one-start k m valid plan shaped by (omega arith))
+        goes m plan counts (alone k) valid shaped by (λ a h. bit-none a ∙ sym (bit-alone k a ∙ ne-eqb k a (omega arith)))
+        (one-start k m valid plan counts shaped by (omega arith))

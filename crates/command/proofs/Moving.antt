@@ -4,8 +4,9 @@ use Prim.Native.Nat.{ℕ, _<_}
 use mathlib.Core.Path.{_≡_, refl}
 use mathlib.Core.Logic.{_⊎_, inl, inr, ⊎-elim}
 use mathlib.Core.List.{List, List·Memᴰ}
-use mathlib.Core.Bool.{true, false}
+use mathlib.Core.Bool.{Bool, true, false}
 use native.Mathlib.Omega.{arith}
+use Rattle.common.proofs.Bools.{true-false}
 use Rattle.common.proofs.Least.{last-or-below}
 use Rattle.sheet.specs.Model.{Model, modeCount, isLive, moveAt}
 use Rattle.sheet.specs.Valid.{Valid}
@@ -33,15 +34,13 @@ pub record Acting (m : Model) (plan : List ℕ) (Usable : ℕ → Type 0) (state
   pub outside : holdsOutside m plan state j (moveAt m v) ≡ true
 
 module _ (m : Model) (plan state : List ℕ) where
-  -- the highest unmet group below g: v is a move of it that leaves a route to an allowed mode, or j is upstream of it
-  pub record Highest (masks : Masks) (g j v : ℕ) : Type 0 where
+  -- the highest unmet group below g: it is j, or j is upstream of it
+  pub record Highest (counts : ℕ → Bool) (masks : Masks) (g j : ℕ) : Type 0 where
     pub top : ℕ
     pub top-below : top < g
     pub top-unmet : met (groups m plan) masks state top ≡ false
     pub above-met : (a : ℕ) → top < a → a < g → met (groups m plan) masks state a ≡ true
-    pub way :
-        ((j ≡ top) × Attains m plan masks j (endMode m (groups m plan) j (moveAt m v) (present m plan state j)))
-        ⊎ (upstreamIn m plan top j ≡ true)
+    pub way : (j ≡ top) ⊎ (upstreamIn m plan counts top j ≡ true)
 
   -- the state that a command leaves: group j is in mode p
   pub record Moves (state′ : List ℕ) (j p : ℕ) : Type 0 where
@@ -66,10 +65,10 @@ module _ {m : Model} {plan : List ℕ} {Usable : ℕ → Type 0} {state : List �
       record { member = rw i (h .member); usable = rw i (h .usable); leading = rw i (h .leading); outside = o }
   sends-acting (prepares e h s) = sends-acting s
 
-module _ {m : Model} {plan : List ℕ} {Usable : ℕ → Type 0} {longest : ℕ → ℕ} (valid : Valid m)
-    (tables : TableLaws m plan Usable longest) {state : List ℕ} (sound : Sound m state) where
+module _ {m : Model} {plan : List ℕ} {counts : ℕ → Bool} {Usable : ℕ → Type 0} {longest : ℕ → ℕ} (valid : Valid m)
+    (tables : TableLaws m plan counts Usable longest) {state : List ℕ} (sound : Sound m state) where
   pub sends-highest : {masks : Masks} {g j v : ℕ} → Sends m plan Usable state masks g j v
-      → Highest m plan state masks g j v
+      → Highest m plan state counts masks g j
   sends-highest {j} {v} (lower {k} e s) =
       let r = sends-highest s in
       record {
@@ -85,19 +84,38 @@ module _ {m : Model} {plan : List ℕ} {Usable : ℕ → Type 0} {longest : ℕ 
         top-below = omega arith;
         top-unmet = e;
         above-met = λ a l b. absurd (let f : ⊥ = omega arith in f);
-        way = inl (refl, rw i (_, h .end-below, h .end-allowed, omega (arith, h .nearer, h .far)));
+        way = inl refl;
       }
   sends-highest (prepares {masks} {k} {j} {v} e h s) =
       let r = sends-highest s in
       let u = Heading.unmet-up valid tables sound k _ (h .member) (h .usable) (r .top) (r .top-unmet) in
-      let on = Facts.upstream-trans m valid plan (tables .shaped) k in
+      let on = Facts.upstream-trans m valid plan counts (tables .shaped) k in
       record {
         top = k;
         top-below = omega arith;
         top-unmet = e;
         above-met = λ a l b. absurd (let f : ⊥ = omega arith in f);
-        way = inr (⊎-elim (λ w. rw (w .0) u) (λ w. on (r .top) j u w) (r .way));
+        way = inr (⊎-elim (λ e. rw e u) (λ w. on (r .top) j u w) (r .way));
       }
+
+  -- a move of the highest unmet group itself leaves a route to an allowed mode
+  pub sends-attains : {masks : Masks} {g j v : ℕ} → Sends m plan Usable state masks g j v
+      → (h : Highest m plan state counts masks g j) → j ≡ h .top
+      → Attains m plan masks j (endMode m (groups m plan) j (moveAt m v) (present m plan state j))
+  sends-attains (lower {masks} {k} e s) h i =
+      let below : h .top < k = ⊎-elim (λ l. absurd (true-false e (rw l at (h .top-unmet)))) (λ l. l) (last-or-below (h .top-below)) in
+      sends-attains s
+      (record {
+        top = h .top;
+        top-below = below;
+        top-unmet = h .top-unmet;
+        above-met = λ a l b. h .above-met a l (omega arith);
+        way = h .way;
+      }) i
+  sends-attains (own {masks} {k} {v} e a w o) h i = rw w (_, a .end-below, a .end-allowed, omega (arith, a .nearer, a .far))
+  sends-attains (prepares {masks} {k} {j} {v} e a s) h i =
+      let low : h .top < k = omega (arith, sends-below s) in
+      absurd (true-false (h .above-met k low (omega arith)) e)
 
   module _ {j v : ℕ} (a : Acting m plan Usable state j v) where
     -- its machine may end in any live mode that it has

@@ -20,12 +20,12 @@ use Rattle.sheet.specs.Parse.{parse}
 use Rattle.sheet.proofs.Parsed.{parse-valid}
 use Rattle.sheet.proofs.Place.{refusal-near}
 use Rattle.plan.specs.Groups.{smallestMember}
-use Rattle.plan.specs.Reading.{groupsIn}
+use Rattle.plan.specs.Reading.{groupsIn, everyMove}
 use Rattle.plan.proofs.GroupLoops.{smallest-inside}
 use Rattle.command.specs.State.{badPair, stateFaults}
 use Rattle.command.specs.Goal.{badByte, goalFaults}
 use Rattle.command.specs.Goal.{Masks, goalMasks, met}
-use Rattle.command.specs.Attainable.{groups, faultOf, groupFaults, attainFaults}
+use Rattle.command.specs.Attainable.{groups, deadEnd, faultOf, groupFaults, attainFaults, coverFaults}
 use Rattle.command.specs.Next.{Next, holdsOutside, prepareBy, followBy, fulfil, goalRefusals, nextReply}
 use Rattle.command.specs.Apply.{applyReply}
 use Rattle.command.proofs.Refusals.{causesOf}
@@ -102,24 +102,24 @@ module _ (m : Model) (valid : Valid m) where
         let few : length (groups m plan) ≤ machineCount m = simp (length-take, length-drop) (omega arith) in
         omega (arith, smallest-inside (groups m plan) k, valid .few-machines)
 
-    group-near : (k : ℕ) → Each NearFault (groupFaults m plan state masks k)
+    group-near : (k : ℕ) → Each NearFault (groupFaults m plan everyMove (deadEnd m plan) state masks k)
     unfolding groupFaults faultOf
     group-near k = (smallest-near _, (smallest-near k, (smallest-near _, tt)))
 
-    causes-near : (k : ℕ) → Each NearFault (causesOf m plan state masks k)
+    causes-near : (k : ℕ) → Each NearFault (causesOf m plan everyMove state masks k)
     causes-near k = by-cases (met (groups m plan) masks state k) (λ t. rw t tt) (λ f. rw f (group-near k))
 
     attain-near : {A : Type 0} (r : Reply A) → Near r → (ks : List ℕ)
-        → Near (unless (flatMap (causesOf m plan state masks) ks) r)
+        → Near (unless (flatMap (causesOf m plan everyMove state masks) ks) r)
     unfolding flatMap
     attain-near r h [] = none-near r h
-    attain-near r h (k ∷ ks) = each-near r (causesOf m plan state masks k) _ (causes-near k) (attain-near r h ks)
+    attain-near r h (k ∷ ks) = each-near r (causesOf m plan everyMove state masks k) _ (causes-near k) (attain-near r h ks)
 
   refusals-near : {A : Type 0} (r : Reply A) (plan state goal : List ℕ) → Near r
       → Near (unless (goalRefusals m plan state goal) r)
   unfolding goalRefusals attainFaults
   refusals-near r plan state goal h =
-      rw (append-assoc (stateFaults m state) (goalFaults m goal) (attainFaults m plan state (goalMasks m goal)))
+      rw (append-assoc (stateFaults m state) (goalFaults m goal) (coverFaults m plan state (goalMasks m goal)))
       (each-near r (stateFaults m state) _ (state-near state)
       (goal-near r goal _ (attain-near plan state (goalMasks m goal) r h _)))
 

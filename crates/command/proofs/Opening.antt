@@ -32,11 +32,11 @@ use Rattle.plan.specs.Kept.Sizes.{capped, cappedSizes}
 use Rattle.plan.specs.Kept.Partition.{cappedWeights, Partitioned}
 use Rattle.plan.specs.Kept.ModeSets.{Weighed, Sized, ZeroSets}
 use Rattle.plan.specs.Promised.{SmallGroups}
-use Rattle.plan.specs.Reading.{groupsIn, wellShaped}
+use Rattle.plan.specs.Reading.{groupsIn, wellShaped, everyMove}
 use Rattle.plan.specs.Says.{verdictSays, shapeReply, outlineReply}
 use Rattle.plan.specs.Kept.Outline.{Outlined}
 use Rattle.plan.proofs.CappedSizes.{capped-small}
-use Rattle.plan.proofs.Counted.{counted-planned}
+use Rattle.plan.proofs.Counted.{counted-all}
 use Rattle.plan.proofs.DigitSets.{weight-small}
 use Rattle.plan.proofs.LengthLaws.{size-kept}
 use Rattle.plan.proofs.MachineDigits.{machine-digit}
@@ -197,8 +197,8 @@ module _ {m : Model} {file plan : List ℕ} {r : Outline} (o : Opened m file pla
   unfolding indexOf
   opened-live = ap (λ y. y .live) (o .indexes .index) ∙ rw (o .indexes .model)
 
-  opened-named : NamedBy m plan (r .groups .named)
-  opened-named = record { bits = λ k a h. rw counted-planned (parts .named k a h) }
+  opened-named : NamedBy m plan everyMove (r .groups .named)
+  opened-named = record { bits = λ k a h. rw counted-all (parts .named k a h) }
 
   bodies-length : length (r .sheet .bodies) ≡ 250
   unfolding indexOf

@@ -21,7 +21,7 @@ use Rattle.plan.specs.Groups.{groupOf}
 use Rattle.plan.specs.Reading.{groupsIn, wellShaped}
 use Rattle.command.specs.State.{modeOf, tagOf, stateFaults}
 use Rattle.command.specs.Goal.{Masks, goalFaults, goalMasks, met}
-use Rattle.command.specs.Attainable.{groups, attainFaults}
+use Rattle.command.specs.Attainable.{groups, coverFaults}
 use Rattle.command.specs.Next.{Next, done, command, targetOf, holdsOutside, unfit, prepareBy, followBy, fulfil}
 use Rattle.command.specs.Apply.{Answers}
 use Rattle.command.specs.Method.{Pick, noneUnmet, unfitEntry, entryMove, pickReply}
@@ -207,7 +207,7 @@ module _ (m : Model) (plan state : List ℕ) where
 -- where 13, 14 and 16 to 18 pass
 module _ (sheet plan state goal : List ℕ) (d : Parsed) (parsed : parse sheet ≡ given d) (shaped : wellShaped (d .model) plan ≡ true)
     (state-good : clear (stateFaults (d .model) state) ≡ true) (goal-good : clear (goalFaults (d .model) goal) ≡ true)
-    (covers : clear (attainFaults (d .model) plan state (goalMasks (d .model) goal)) ≡ true) where
+    (covers : clear (coverFaults (d .model) plan state (goalMasks (d .model) goal)) ≡ true) where
   pub method-right : MethodRight (d .model) sheet plan state goal
   method-right =
       let m = d .model in

@@ -4,7 +4,7 @@ use Prim.Native.Nat.{ℕ, _^_, _≤_, _<_}
 use mathlib.Core.Path.{_≡_, sym, _∙_}
 use mathlib.Core.Logic.{⊎-elim}
 use mathlib.Core.List.{List}
-use mathlib.Core.Bool.{true}
+use mathlib.Core.Bool.{Bool, true}
 use native.Mathlib.Omega.{arith}
 use lib.ListN.{length, getD}
 use Rattle.common.specs.Bits.{bit}
@@ -20,9 +20,9 @@ use Rattle.sheet.specs.Valid.{Valid}
 use Rattle.plan.specs.Groups.{groupCount}
 use Rattle.plan.specs.Says.{verdictSays}
 use Rattle.plan.specs.Kept.Partition.{MemberSets}
-use Rattle.plan.specs.Reading.{groupsIn, wellShaped}
+use Rattle.plan.specs.Reading.{groupsIn, wellShaped, everyMove}
 use Rattle.command.specs.Goal.{Masks}
-use Rattle.command.specs.Attainable.{attainFaults}
+use Rattle.command.specs.Attainable.{coverFaults}
 use Rattle.command.specs.Next.{Next, followBy, fulfil}
 use Rattle.command.specs.Kept.Question.{Allows, Placed, Kept, GroupsOnly, FailedSet, NamedBy, UpstreamOfSome}
 use Rattle.command.specs.Kept.Question.{machinesIn, AllowedSets, KeptGoal, numbersIn}
@@ -62,10 +62,10 @@ module _ {m : Model} {file plan state : List ℕ} {goal : Masks} {bodies starts 
     pursued-only = left-only (q .kept .placed) (q .leaves) fits
 
     -- the groups upstream of the unmet ones, and both together
-    module _ {above : ℕ} (up : (m : Model) (plan : List ℕ) → Valid m → wellShaped m plan ≡ true → NamedBy m plan named
-        → UpstreamOfSome m plan left above) where
-      pub pursued-upper : UpstreamOfSome m plan left above
-      pursued-upper = up m plan (q .kept .placed .valid) (q .kept .placed .shaped) (q .naming)
+    module _ {above : ℕ} (up : (m : Model) (plan : List ℕ) (counts : ℕ → Bool) → Valid m → wellShaped m plan ≡ true → NamedBy m plan counts named
+        → UpstreamOfSome m plan counts left above) where
+      pub pursued-upper : UpstreamOfSome m plan everyMove left above
+      pursued-upper = up m plan everyMove (q .kept .placed .valid) (q .kept .placed .shaped) (q .naming)
 
       module _ {among : ℕ} (j : among ≡ union above left) where
         pub pursued-among : GroupsOnly m plan among
@@ -91,8 +91,8 @@ module _ {m : Model} {file plan state : List ℕ} {goal : Masks} {bodies starts 
 
     -- 16 to 18 pass, and the highest is followed
     pub pursued-replies : (k : ℕ) {v : Verdict} {r : Reply Next}
-        → verdictSays v ≡ unless (attainFaults m plan state goal) (given tt) → v ≡ Accepted → Top left k
+        → verdictSays v ≡ unless (coverFaults m plan state goal) (given tt) → v ≡ Accepted → Top left k
         → r ≡ followBy m plan state (λ needs. fulfil m plan state needs k) goal k
-        → r ≡ unless (attainFaults m plan state goal) (fulfil m plan state goal (groupCount (groupsIn m plan)))
+        → r ≡ unless (coverFaults m plan state goal) (fulfil m plan state goal (groupCount (groupsIn m plan)))
     pursued-replies k e a top s =
         s ∙ sym (accepted-unless _ e _ a ∙ highest-left (q .kept .placed) (q .leaves) k fits top)

@@ -4,7 +4,7 @@ use Prim.Native.Nat.{ℕ}
 use mathlib.Core.Path.{_≡_, sym, ap, _∙_}
 use mathlib.Core.Logic.{⊎-elim}
 use mathlib.Core.List.{List, []}
-use mathlib.Core.Bool.{true, false, cond, not}
+use mathlib.Core.Bool.{Bool, true, false, cond, not}
 use borrow.Author.Tests.{not-true, not-false}
 use Rattle.common.specs.Reply.{Reply, Fault, clear, unless}
 use Rattle.common.proofs.Bools.{true-false, false-of-not-true, cond-false}
@@ -14,10 +14,10 @@ use Rattle.sheet.specs.Model.{Model}
 use Rattle.sheet.specs.Valid.{Valid}
 use Rattle.sheet.proofs.Parsed.{parse-valid}
 use Rattle.plan.specs.Groups.{groupCount}
-use Rattle.plan.specs.Reading.{wellShaped}
+use Rattle.plan.specs.Reading.{wellShaped, everyMove}
 use Rattle.command.specs.Goal.{Masks, met}
 use Rattle.common.specs.Lists.{downTo}
-use Rattle.command.specs.Attainable.{groups, groupFaults, attainFaults}
+use Rattle.command.specs.Attainable.{groups, deadEnd, groupFaults, attainFaults}
 use Rattle.command.specs.Uncovered.{Uncovered, RefusedSo, UncoveredRefused}
 use Rattle.command.proofs.Shape.{Sound, sound-state}
 use Rattle.command.proofs.Highest.{Highest, find-down, downTo-below, unless-highest}
@@ -28,15 +28,15 @@ use Rattle.command.proofs.TurnedDown.{state-passes, goal-passes}
 use Rattle.command.proofs.Admitted.{passes-admitted}
 use Rattle.command.proofs.OneRefusal.{uncovered-one}
 
-module _ (m : Model) (plan state : List ℕ) (masks : Masks) where
+module _ (m : Model) (plan : List ℕ) (counts : ℕ → Bool) (state : List ℕ) (masks : Masks) where
   abbrev count : ℕ
   count = groupCount (groups m plan)
 
   -- the causes of one group: none where it is met
   abbrev pub causesOf : ℕ → List Fault
-  causesOf k = cond (met (groups m plan) masks state k) [] (groupFaults m plan state masks k)
+  causesOf k = cond (met (groups m plan) masks state k) [] (groupFaults m plan counts (deadEnd m plan) state masks k)
 
-  pub causes-are : (k : ℕ) → met (groups m plan) masks state k ≡ false → causesOf k ≡ groupFaults m plan state masks k
+  pub causes-are : (k : ℕ) → met (groups m plan) masks state k ≡ false → causesOf k ≡ groupFaults m plan counts (deadEnd m plan) state masks k
   causes-are k f = cond-false _ _ f
 
   causes-unmet : (k : ℕ) → clear (causesOf k) ≡ false → met (groups m plan) masks state k ≡ false
@@ -45,18 +45,18 @@ module _ (m : Model) (plan state : List ℕ) (masks : Masks) where
   -- the highest-numbered unmet group that has a cause refuses
   module _ (valid : Valid m) (shaped : wellShaped m plan ≡ true) (small : Small m plan) (sound : Sound m state) where
     by-top : {A : Type 0} (r : Reply A) (k : ℕ) → Highest (λ k. not (clear (causesOf k))) count k
-        → RefusedSo m plan state masks (unless (attainFaults m plan state masks) r)
+        → RefusedSo m plan counts state masks (unless (attainFaults m plan counts (deadEnd m plan) state masks) r)
     unfolding attainFaults
     by-top r k top =
         let some : clear (causesOf k) ≡ false = not-true _ (top .has) in
         let unmet = causes-unmet k some in
-        let b = group-because m plan state masks valid shaped small sound k r (top .below)
+        let b = group-because m plan counts state masks valid shaped small sound k r (top .below)
         (sym (ap clear (causes-are k unmet)) ∙ some) in
-        let due : Uncovered m plan state masks (b .0) (b .1) = record {
+        let due : Uncovered m plan counts state masks (b .0) (b .1) = record {
           group = k;
           below = top .below;
           unmet = unmet;
-          higher-pass = λ b l h f. clear-passes m plan state masks valid shaped small sound b h
+          higher-pass = λ b l h f. clear-passes m plan counts state masks valid shaped small sound b h
               (sym (ap clear (causes-are b f)) ∙ not-false _ (top .none-above b l h));
           because = b .2;
         } in
@@ -64,12 +64,12 @@ module _ (m : Model) (plan state : List ℕ) (masks : Masks) where
           number = b .0;
           place = b .1;
           uncovered = due;
-          alone = λ n p other. uncovered-one m plan state masks other due;
+          alone = λ n p other. uncovered-one m plan counts state masks other due;
           refuses = unless-highest causesOf count r top ∙ (ap (λ fs. unless fs r) (causes-are k unmet) ∙ b .3);
         }
 
-    attain-refuses : {A : Type 0} (r : Reply A) → clear (attainFaults m plan state masks) ≡ false
-        → RefusedSo m plan state masks (unless (attainFaults m plan state masks) r)
+    attain-refuses : {A : Type 0} (r : Reply A) → clear (attainFaults m plan counts (deadEnd m plan) state masks) ≡ false
+        → RefusedSo m plan counts state masks (unless (attainFaults m plan counts (deadEnd m plan) state masks) r)
     unfolding attainFaults
     attain-refuses r h =
         ⊎-elim
@@ -87,5 +87,5 @@ uncovered sheet plan state goal d parsed shaped bytes state-fits goal-fits fails
     let fits = state-passes m state .1 state-fits in
     let fine = goal-passes m goal .1 goal-fits in
     rw (next-reply sheet plan state goal d parsed shaped fits fine)
-    (attain-refuses m plan state _ valid shaped small (sound-state m state fits) _
+    (attain-refuses m plan everyMove state _ valid shaped small (sound-state m state fits) _
     (false-of-not-true (λ t. fails (passes-admitted m valid plan shaped small state goal fits fine t))))

@@ -1,11 +1,11 @@
--- 18 of one group: the modes from which whatever is reached has a route to an allowed mode. Three laws, and no proof of
--- arrival uses more: the needs of a usable move are safe where a lower group is live; a usable move keeps safe; safe attains.
+-- 18 of one group, as arrival uses it: three laws of a relation between a goal, a group and its mode. The modes from which
+-- whatever is reached has a route to an allowed mode have them.
 -- Assumes nothing.
 use Prim.Native.Nat.{ℕ, _<_}
 use mathlib.Core.Path.{_≡_, _∙_}
 use mathlib.Core.Logic.{⊎-elim}
 use mathlib.Core.List.{List, [], _∷_, List·Memᴰ}
-use mathlib.Core.Bool.{true}
+use mathlib.Core.Bool.{Bool, true}
 use native.Mathlib.Omega.{arith}
 use Rattle.common.proofs.Least.{mem-or-not}
 use Rattle.sheet.specs.Model.{Model, moveAt}
@@ -22,53 +22,63 @@ use Rattle.command.specs.Attainable.{groups}
 use Rattle.command.specs.Covered.{Attains, Safe}
 use Rattle.command.proofs.Facts
 
-module _ {m : Model} {plan : List ℕ} {Usable : ℕ → Type 0} {longest : ℕ → ℕ} (valid : Valid m)
-    (tables : TableLaws m plan Usable longest) where
+pub record SafeLaws (m : Model) (plan : List ℕ) (Usable : ℕ → Type 0) (S : Masks → ℕ → ℕ → Type 0) : Type 0 where
   -- a safe mode has a route to an allowed mode
-  pub safe-attains : {masks : Masks} (a p : ℕ) → a < groupCount (groups m plan) → p < size m (groups m plan) a
-      → Safe m plan masks a p → Attains m plan masks a p
-  safe-attains a p h below safe = safe .attains-from p below (omega (arith, tables .zero-self a p h below))
+  pub safe-attains : (masks : Masks) (a p : ℕ) → a < groupCount (groups m plan) → p < size m (groups m plan) a
+      → S masks a p → Attains m plan masks a p
+  -- a usable move leads from a safe mode to a safe one
+  pub safe-after : (masks : Masks) (k v p : ℕ) → List·Memᴰ v (movesOf m (groups m plan) k) → Usable v
+      → p < size m (groups m plan) k → leads m (groups m plan) k (moveAt m v) p ≡ true → S masks k p
+      → S masks k (endMode m (groups m plan) k (moveAt m v) p)
+  -- the needs of a usable move are safe where a lower group is live
+  pub safe-of-live : (k v a p : ℕ) → List·Memᴰ v (movesOf m (groups m plan) k) → Usable v
+      → a < k → p < size m (groups m plan) a → liveMode m (groups m plan) a p ≡ true
+      → S (guardMasks m (groups m plan) k (moveAt m v)) a p
 
-  module _ (routes : RouteLaws m plan Usable) {v : ℕ} (k : ℕ) (member : List·Memᴰ v (movesOf m (groups m plan) k))
-      (usable : Usable v) where
-    k-below : k < groupCount (groups m plan)
-    k-below = Facts.move-below m valid plan (tables .shaped) k v member
+module _ {m : Model} {plan : List ℕ} {counts : ℕ → Bool} {Usable : ℕ → Type 0} {longest : ℕ → ℕ} (valid : Valid m)
+    (tables : TableLaws m plan counts Usable longest) (routes : RouteLaws m plan Usable) where
+  move-below : {k v : ℕ} → List·Memᴰ v (movesOf m (groups m plan) k) → k < groupCount (groups m plan)
+  move-below {k} {v} member = Facts.move-below m valid plan (tables .shaped) k v member
 
-    -- a usable move leads from a safe mode to a safe one
-    pub safe-after : {masks : Masks} (p : ℕ) → p < size m (groups m plan) k
-        → leads m (groups m plan) k (moveAt m v) p ≡ true → Safe m plan masks k p
-        → Safe m plan masks k (endMode m (groups m plan) k (moveAt m v) p)
-    safe-after p below leading safe =
-        let n = Facts.groups-length m valid plan (tables .shaped) in
-        let there = endMode-below m valid (groups m plan) n k member below leading in
-        let first = routes .move-connects k p v k-below below member usable leading in
-        record {
-          attains-from = λ q h c.
-              safe .attains-from q h (routes .connects-compose k p _ q k-below below there h first c);
-        }
+  keeps-safe : (masks : Masks) (k v p : ℕ) → List·Memᴰ v (movesOf m (groups m plan) k) → Usable v
+      → p < size m (groups m plan) k → leads m (groups m plan) k (moveAt m v) p ≡ true → Safe m plan masks k p
+      → Safe m plan masks k (endMode m (groups m plan) k (moveAt m v) p)
+  keeps-safe masks k v p member usable below leading safe =
+      let n = Facts.groups-length m valid plan (tables .shaped) in
+      let there = endMode-below m valid (groups m plan) n k member below leading in
+      let first = routes .move-connects k p v (move-below member) below member usable leading in
+      record {
+        attains-from = λ q h c.
+            safe .attains-from q h (routes .connects-compose k p _ q (move-below member) below there h first c);
+      }
 
-    -- its needs on a lower group: every live mode has a route to an allowed one, and so is safe
-    live-attains : (a q : ℕ) → a < k → q < size m (groups m plan) a → liveMode m (groups m plan) a q ≡ true
-        → Attains m plan (guardMasks m (groups m plan) k (moveAt m v)) a q
-    live-attains a q low below live =
-        ⊎-elim
-        (λ n.
-        let named = rw (← moves-group m (groupsIn m plan) k member) at n in
-        let r = tables .always-met v a q (moves-below m (groupsIn m plan) k member) usable named below live in
-        let other : a ≡ k → ⊥ = λ e. omega arith in
-        (r .0, r .1, Facts.needs-allowed m valid plan (tables .shaped) k v member a (r .0) other ∙ r .2, r .3))
-        (λ free. (
-          q,
-          below,
-          Facts.needs-free m valid plan (tables .shaped) k v member a q free,
-          omega (arith, tables .zero-self a q (omega (arith, k-below)) below),
-        ))
-        (mem-or-not a (namedOutside m (groups m plan) k (v ∷ [])))
+  -- the needs on a lower group: every live mode has a route to an allowed one
+  live-attains : (k v a q : ℕ) → List·Memᴰ v (movesOf m (groups m plan) k) → Usable v → a < k
+      → q < size m (groups m plan) a → liveMode m (groups m plan) a q ≡ true
+      → Attains m plan (guardMasks m (groups m plan) k (moveAt m v)) a q
+  live-attains k v a q member usable low below live =
+      ⊎-elim
+      (λ n.
+      let named = rw (← moves-group m (groupsIn m plan) k member) at n in
+      let r = tables .always-met v a q (moves-below m (groupsIn m plan) k member) usable named below live in
+      let other : a ≡ k → ⊥ = λ e. omega arith in
+      (r .0, r .1, Facts.needs-allowed m valid plan (tables .shaped) k v member a (r .0) other ∙ r .2, r .3))
+      (λ free. (
+        q,
+        below,
+        Facts.needs-free m valid plan (tables .shaped) k v member a q free,
+        omega (arith, tables .zero-self a q (omega (arith, move-below member)) below),
+      ))
+      (mem-or-not a (namedOutside m (groups m plan) k (v ∷ [])))
 
-    pub safe-of-live : (a p : ℕ) → a < k → p < size m (groups m plan) a → liveMode m (groups m plan) a p ≡ true
-        → Safe m plan (guardMasks m (groups m plan) k (moveAt m v)) a p
-    safe-of-live a p low below live =
-        record {
-          attains-from = λ q h c. live-attains a q low h
-              (routes .connects-live a p q (omega (arith, k-below)) below h c live);
-        }
+  pub safe-laws : SafeLaws m plan Usable (Safe m plan)
+  safe-laws =
+      record {
+        safe-attains = λ masks a p h below safe.
+            safe .attains-from p below (omega (arith, tables .zero-self a p h below));
+        safe-after = keeps-safe;
+        safe-of-live = λ k v a p member usable low below live. record {
+          attains-from = λ q h c. live-attains k v a q member usable low h
+              (routes .connects-live a p q (omega (arith, move-below member)) below h c live);
+        };
+      }

@@ -4,7 +4,7 @@ use Prim.Native.Nat.{ℕ, zero, suc, _≤_, _<_}
 use mathlib.Core.Path.{_≡_, refl, _∙_}
 use mathlib.Core.Logic.{_⊎_, inl, inr, ⊎-elim}
 use mathlib.Core.List.{List}
-use mathlib.Core.Bool.{true, false}
+use mathlib.Core.Bool.{Bool, true, false}
 use native.Mathlib.Nat.{not-suc-le-zero}
 use native.Mathlib.Omega.{arith}
 use Rattle.common.specs.Reply.{given}
@@ -13,15 +13,16 @@ use Rattle.common.proofs.Least.{last-or-below}
 use Rattle.sheet.specs.Model.{Model, moveAt}
 use Rattle.sheet.specs.Valid.{Valid}
 use Rattle.plan.specs.Groups.{groupCount}
-use Rattle.plan.specs.Laws.{TableLaws, RouteLaws}
+use Rattle.plan.specs.Laws.{TableLaws}
 use Rattle.command.specs.Goal.{Masks, met}
 use Rattle.command.specs.Attainable.{groups}
-use Rattle.command.specs.Covered.{Covered}
+use Rattle.command.specs.Covered.{Attains, Covered}
 use Rattle.command.specs.Next.{done, command, holdsOutside, prepareBy, fulfil}
 use Rattle.command.proofs.Facts
 use Rattle.command.proofs.Facts.{Sound}
 use Rattle.command.proofs.Following
 use Rattle.command.proofs.Following.{firstMove, needsOf}
+use Rattle.command.proofs.Safe.{SafeLaws}
 use Rattle.command.proofs.Heading
 use Rattle.command.proofs.Heading.{Heading}
 
@@ -47,8 +48,8 @@ module _ (m : Model) (plan : List ℕ) (Usable : ℕ → Type 0) (state : List �
     pub sends : Sends masks g group move
     pub replies : fulfil m plan state masks g ≡ given (command (moveAt m move .machine) (moveAt m move .command))
 
-pub covered-below : {m : Model} {plan : List ℕ} {masks : Masks} {state : List ℕ} {g : ℕ}
-    → Covered m plan masks state (suc g) → Covered m plan masks state g
+pub covered-below : {m : Model} {plan : List ℕ} {counts : ℕ → Bool} {A S : Masks → ℕ → ℕ → Type 0} {masks : Masks} {state : List ℕ}
+    {g : ℕ} → Covered m plan counts A S masks state (suc g) → Covered m plan counts A S masks state g
 covered-below c =
     record {
       itself-live = λ k h. c .itself-live k (omega arith);
@@ -57,14 +58,14 @@ covered-below c =
       no-dead-end = λ k a h. c .no-dead-end k a (omega arith);
     }
 
-module _ {m : Model} {plan : List ℕ} {Usable : ℕ → Type 0} {longest : ℕ → ℕ} (valid : Valid m)
-    (tables : TableLaws m plan Usable longest) {state : List ℕ} (sound : Sound m state) where
+module _ {m : Model} {plan : List ℕ} {counts : ℕ → Bool} {Usable : ℕ → Type 0} {longest : ℕ → ℕ} (valid : Valid m)
+    (tables : TableLaws m plan counts Usable longest) {state : List ℕ} (sound : Sound m state) where
   abbrev N : ℕ
   N = groupCount (groups m plan)
 
   -- an unmet group of a covered goal has its entry
-  pub covered-heading : (masks : Masks) (k : ℕ) → k < N → met (groups m plan) masks state k ≡ false
-      → Covered m plan masks state (suc k) → Heading m plan Usable state masks k
+  pub covered-heading : {S : Masks → ℕ → ℕ → Type 0} (masks : Masks) (k : ℕ) → k < N → met (groups m plan) masks state k ≡ false
+      → Covered m plan counts (Attains m plan) S masks state (suc k) → Heading m plan Usable state masks k
   covered-heading masks k below unmet c =
       Heading.heading valid tables sound masks k below unmet (c .attains k (omega arith) unmet)
 
@@ -110,18 +111,18 @@ module _ {m : Model} {plan : List ℕ} {Usable : ℕ → Type 0} {longest : ℕ 
         replies = follows masks k unmet h ∙ Following.prepare-asks m plan state _ k _ o ∙ c .replies;
       }
 
-module _ {m : Model} {plan : List ℕ} {Usable : ℕ → Type 0} {longest : ℕ → ℕ} (valid : Valid m)
-    (tables : TableLaws m plan Usable longest) (routes : RouteLaws m plan Usable) {state : List ℕ} (sound : Sound m state) where
+module _ {m : Model} {plan : List ℕ} {counts : ℕ → Bool} {Usable : ℕ → Type 0} {longest : ℕ → ℕ} (valid : Valid m)
+    (tables : TableLaws m plan counts Usable longest) {S : Masks → ℕ → ℕ → Type 0} (safe : SafeLaws m plan Usable S) {state : List ℕ} (sound : Sound m state) where
   -- the needs of the entry's move are covered
   pub heading-needs-covered : (masks : Masks) (k : ℕ) → Heading m plan Usable state masks k
-      → met (groups m plan) masks state k ≡ false → Covered m plan masks state (suc k)
-      → Covered m plan (needsOf m plan state masks k) state k
+      → met (groups m plan) masks state k ≡ false → Covered m plan counts (Attains m plan) S masks state (suc k)
+      → Covered m plan counts (Attains m plan) S (needsOf m plan state masks k) state k
   heading-needs-covered masks k h unmet c =
-      Heading.needs-covered valid tables sound k _ (h .member) (h .usable) routes
+      Heading.needs-covered valid tables sound k _ (h .member) (h .usable) safe
       (λ a u. c .upstream-live k a (omega arith) unmet u)
 
   -- a covered goal is fulfilled, or a command is given
-  pub done-or-commanded : (g : ℕ) → g ≤ groupCount (groups m plan) → (masks : Masks) → Covered m plan masks state g
+  pub done-or-commanded : (g : ℕ) → g ≤ groupCount (groups m plan) → (masks : Masks) → Covered m plan counts (Attains m plan) S masks state g
       → ((fulfil m plan state masks g ≡ given done) × AllMet m plan state masks g)
       ⊎ Commanded m plan Usable state masks g
   done-or-commanded zero le masks c = inl (Following.fulfil-none m plan state masks, λ a h. absurd (not-suc-le-zero h))

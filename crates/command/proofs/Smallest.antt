@@ -16,7 +16,6 @@ use Rattle.sheet.specs.Model.{Model}
 use Rattle.sheet.specs.Valid.{Valid}
 use Rattle.plan.specs.Groups.{Grouping, groupOf, groupCount, smallestMember}
 use Rattle.plan.specs.Reading.{groupsIn, gapless, wellShaped}
-use Rattle.command.specs.Goal.{Masks}
 use Rattle.command.specs.Uncovered.{Smallest}
 use Rattle.command.proofs.Shape.{shape-gapless, groups-length}
 
@@ -29,10 +28,9 @@ group-used groups k h below =
     let s = mem-index 0 (r .1) in
     any-intro _ (upTo-mem (s .1)) (eq-eqb _ _ (s .2 ∙ sym (eqb-true _ _ (r .2))))
 
-module _ (m : Model) (valid : Valid m) (plan : List ℕ) (shaped : wellShaped m plan ≡ true) (state : List ℕ)
-    (masks : Masks) where
+module _ (m : Model) (valid : Valid m) (plan : List ℕ) (shaped : wellShaped m plan ≡ true) where
   pub smallest : (k : ℕ) → k < groupCount (groupsIn m plan)
-      → Smallest m plan state masks k (smallestMember (groupsIn m plan) k)
+      → Smallest m plan k (smallestMember (groupsIn m plan) k)
   unfolding smallestMember
   smallest k below =
       let own = groupsIn m plan in

@@ -19,7 +19,7 @@ use Rattle.plan.specs.Says.{verdictSays, shapeReply, outlineReply}
 use Rattle.command.specs.State.{stateFaults}
 use Rattle.command.specs.Goal.{goalFaults}
 use Rattle.command.specs.Goal.{goalMasks}
-use Rattle.command.specs.Attainable.{attainFaults}
+use Rattle.command.specs.Attainable.{coverFaults}
 use Rattle.command.specs.Next.{misshapen, goalRefusals, nextReply}
 use Rattle.command.proofs.TurnedDown.{sheet-before}
 use Rattle.command.proofs.Verdicts.{refused-first}
@@ -27,10 +27,10 @@ use Rattle.command.proofs.Verdicts.{refused-first}
 module _ (m : Model) (plan state goal : List ℕ) {A : Type 0} (r : Reply A) where
   -- 13, then 14 and the rest
   refusals-are : unless (goalRefusals m plan state goal) r
-      ≡ unless (stateFaults m state ++ (goalFaults m goal ++ attainFaults m plan state (goalMasks m goal))) r
+      ≡ unless (stateFaults m state ++ (goalFaults m goal ++ coverFaults m plan state (goalMasks m goal))) r
   unfolding goalRefusals
   refusals-are =
-      rw (append-assoc (stateFaults m state) (goalFaults m goal) (attainFaults m plan state (goalMasks m goal)))
+      rw (append-assoc (stateFaults m state) (goalFaults m goal) (coverFaults m plan state (goalMasks m goal)))
 
   pub state-refused : {v : Verdict} {cause : Cause} {place : ℕ} → verdictSays v ≡ unless (stateFaults m state) (given tt)
       → v ≡ Refused cause place → refused (numberOf cause) place ≡ unless (goalRefusals m plan state goal) r

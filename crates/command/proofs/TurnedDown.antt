@@ -28,7 +28,7 @@ use Rattle.plan.proofs.Shape.{shapes-right}
 use Rattle.command.specs.State.{modeOf, tagOf, badPair, stateFaults}
 use Rattle.command.specs.Goal.{badByte, goalFaults}
 use Rattle.command.specs.Goal.{goalMasks}
-use Rattle.command.specs.Attainable.{attainFaults}
+use Rattle.command.specs.Attainable.{coverFaults}
 use Rattle.command.specs.Next.{fulfil, goalRefusals, nextReply}
 use Rattle.command.specs.Apply.{applyReply}
 use Rattle.command.specs.TurnedDown.{Present, Sensible, StateFits, StatePasses, GoalPasses, FirstWrong}
@@ -155,7 +155,7 @@ module _ (sheet plan state goal : List ℕ) (d : Parsed) (parses : parse sheet �
   m = d .model
 
   abbrev later : List Fault
-  later = attainFaults m plan state (goalMasks m goal)
+  later = coverFaults m plan state (goalMasks m goal)
 
   judged : nextReply sheet plan state goal
       ≡ unless (stateFaults m state ++ (goalFaults m goal ++ later))

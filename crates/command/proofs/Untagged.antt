@@ -10,14 +10,14 @@ use Rattle.common.specs.Reply.{clear}
 use Rattle.sheet.specs.Model.{Model, moveCount, moveAt}
 use Rattle.sheet.specs.Valid.{Valid}
 use Rattle.plan.specs.Groups.{groupOf, groupCount}
-use Rattle.plan.specs.Reading.{groupsIn, wellShaped}
+use Rattle.plan.specs.Reading.{groupsIn, wellShaped, everyMove}
 use Rattle.plan.proofs.Named.{moves-in}
-use Rattle.plan.proofs.Counted.{usable-counts}
+use Rattle.plan.proofs.Counted.{moves-counted}
 use Rattle.plan.proofs.Modes.{is-member}
 use Rattle.command.specs.State.{tagOf}
 use Rattle.command.specs.Goal.{Masks, guardMasks, met}
 use Rattle.command.specs.Ancestors.{upstreamIn}
-use Rattle.command.specs.Attainable.{attainFaults}
+use Rattle.command.specs.Attainable.{coverFaults}
 use Rattle.command.specs.Uncovered.{Concerns}
 use Rattle.command.specs.Method.{entryMove, Picks, sends, prepares}
 use Rattle.command.proofs.Shape.{Sound, groups-length, group-below}
@@ -38,15 +38,16 @@ module _ (m : Model) (valid : Valid m) (plan : List ℕ) (shaped : wellShaped m 
     pub top : ℕ
     pub below : top < n
     pub unmet : met (groupsIn m plan) masks state top ≡ false
-    pub leads : Concerns m plan state masks top (home v)
+    pub leads : Concerns m plan everyMove state masks top (home v)
 
   -- what move v of group k needs leaves a group unmet: that one is upstream of k
   needs-up : (k v : ℕ) → v < moveCount m → home v ≡ k → (a : ℕ)
       → met (groupsIn m plan) (guardMasks m (groupsIn m plan) k (moveAt m v)) state a ≡ false
-      → upstreamIn m plan k a ≡ true
+      → upstreamIn m plan everyMove k a ≡ true
   needs-up k v listed own =
       let member = moves-in m (groupsIn m plan) listed own in
-      unmet-upstream m valid plan shaped k v member state sound (usable-counts m plan k (λ w. Unit {0}) member tt)
+      unmet-upstream m valid plan shaped k v member state sound everyMove
+      (moves-counted m plan everyMove k member refl)
 
   pub picked-way : {masks : Masks} {n v : ℕ} → Picks m plan state masks n (entryMove v) → Way masks n v
   picked-way (sends k q h t f o) =
@@ -59,16 +60,16 @@ module _ (m : Model) (valid : Valid m) (plan : List ℕ) (shaped : wellShaped m 
         top = k;
         below = h .below;
         unmet = h .unmet;
-        leads = inr (⊎-elim (λ e. rw e up) (λ u. upstream-trans m valid plan shaped k (r .top) (home v) up u) (r .leads));
+        leads = inr (⊎-elim (λ e. rw e up) (λ u. upstream-trans m valid plan everyMove shaped k (r .top) (home v) up u) (r .leads));
       }
 
-  module _ (masks : Masks) (covered : clear (attainFaults m plan state masks) ≡ true) where
+  module _ (masks : Masks) (covered : clear (coverFaults m plan state masks) ≡ true) where
     pub picked-untagged : (v : ℕ) → Picks m plan state masks (groupCount (groupsIn m plan)) (entryMove v)
         → tagOf state (moveAt m v .machine) ≡ 0
     picked-untagged v picks =
         let r = picked-way picks in
         let there = valid .moves-valid v (r .listed) .present in
-        let live = all-live m plan state masks (r .top) (clear-group m plan state masks covered (r .top) (r .below) (r .unmet))
+        let live = all-live m plan everyMove state masks (r .top) (clear-group m plan everyMove state masks covered (r .top) (r .below) (r .unmet))
         (home v) (group-below m valid plan shaped (moveAt m v .machine) there) (r .leads) in
         live-untagged m plan state (home v) (moveAt m v .machine) live
         (is-member (groupsIn m plan) (home v) (rw groups-length there) refl)

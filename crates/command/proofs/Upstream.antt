@@ -3,7 +3,7 @@
 use Prim.Native.Nat.{ℕ, _≤_, _<_}
 use mathlib.Core.Path.{_≡_}
 use mathlib.Core.List.{List, [], List·Memᴰ}
-use mathlib.Core.Bool.{true, not}
+use mathlib.Core.Bool.{Bool, true, not}
 use native.Mathlib.Omega.{arith}
 use borrow.Author.Tests.{eqb-false, ne-eqb, not-true}
 use lib.Dec.{eqb}
@@ -66,39 +66,39 @@ module _ (m : Model) (groups : Grouping) (counting : ℕ → List ℕ) where
       (chain-connected (groupGraph m groups counting) k a (omega (arith, length-groupGraph)) c)
 
 -- under a plan
-module _ (m : Model) (valid : Valid m) (plan : List ℕ) (shaped : wellShaped m plan ≡ true) where
+module _ (m : Model) (valid : Valid m) (plan : List ℕ) (counts : ℕ → Bool) (shaped : wellShaped m plan ≡ true) where
   abbrev own : Grouping
   own = groupsIn m plan
 
-  pub named-upstream : (k a : ℕ) → List·Memᴰ a (namedOutside m (groupsIn m plan) k (counted m plan k))
-      → k < groupCount (groupsIn m plan) → upstreamIn m plan k a ≡ true
+  pub named-upstream : (k a : ℕ) → List·Memᴰ a (namedOutside m (groupsIn m plan) k (counted m plan counts k))
+      → k < groupCount (groupsIn m plan) → upstreamIn m plan counts k a ≡ true
   named-upstream k a h b =
-      let moves = counted m plan k in
-      chain-upstream m own (counted m plan) k a (named-other m own k moves h) (named-below m own k moves h)
-      (step a (rw (groupGraph-at m own (counted m plan) k b) h) here)
+      let moves = counted m plan counts k in
+      chain-upstream m own (counted m plan counts) k a (named-other m own k moves h) (named-below m own k moves h)
+      (step a (rw (groupGraph-at m own (counted m plan counts) k b) h) here)
 
   -- what a group names is lower
-  named-falls : (k a : ℕ) → List·Memᴰ a (namedOutside m own k (counted m plan k)) → a < k
+  named-falls : (k a : ℕ) → List·Memᴰ a (namedOutside m own k (counted m plan counts k)) → a < k
   named-falls k a l =
       named-lower m own k (shape-first m plan shaped)
-      (named-more m own k (counted m plan k) (λ v. counted-moves m plan k) l)
+      (named-more m own k (counted m plan counts k) (λ v. counted-moves m plan counts k) l)
 
-  pub upstream-below : (k a : ℕ) → upstreamIn m plan k a ≡ true → a < k
+  pub upstream-below : (k a : ℕ) → upstreamIn m plan counts k a ≡ true → a < k
   upstream-below k a h =
-      let low : a ≤ k = chain-invariant (λ x. x ≤ k) falling (upstream-chain m own (counted m plan) k a h .1) (omega arith) in
-      let other : a ≡ k → ⊥ = upstream-other m own (counted m plan) k a h in
+      let low : a ≤ k = chain-invariant (λ x. x ≤ k) falling (upstream-chain m own (counted m plan counts) k a h .1) (omega arith) in
+      let other : a ≡ k → ⊥ = upstream-other m own (counted m plan counts) k a h in
       omega arith
     where
-      falling : (x y : ℕ) → List·Memᴰ y (successors (groupGraph m own (counted m plan)) x) → x ≤ k → y ≤ k
-      falling x y l p = omega (arith, named-falls x y (groupGraph-names m own (counted m plan) x y l))
+      falling : (x y : ℕ) → List·Memᴰ y (successors (groupGraph m own (counted m plan counts)) x) → x ≤ k → y ≤ k
+      falling x y l p = omega (arith, named-falls x y (groupGraph-names m own (counted m plan counts) x y l))
 
-  pub upstream-count : (k a : ℕ) → upstreamIn m plan k a ≡ true → k < groupCount (groupsIn m plan)
-  upstream-count k a h = upstream-nodes m own (counted m plan) k a h .0
+  pub upstream-count : (k a : ℕ) → upstreamIn m plan counts k a ≡ true → k < groupCount (groupsIn m plan)
+  upstream-count k a h = upstream-nodes m own (counted m plan counts) k a h .0
 
-  pub upstream-trans : (k a b : ℕ) → upstreamIn m plan k a ≡ true → upstreamIn m plan a b ≡ true
-      → upstreamIn m plan k b ≡ true
+  pub upstream-trans : (k a b : ℕ) → upstreamIn m plan counts k a ≡ true → upstreamIn m plan counts a b ≡ true
+      → upstreamIn m plan counts k b ≡ true
   upstream-trans k a b h l =
-      chain-upstream m own (counted m plan) k b
+      chain-upstream m own (counted m plan counts) k b
       (omega (arith, upstream-below k a h, upstream-below a b l))
-      (upstream-nodes m own (counted m plan) a b l .1)
-      (chain-append (upstream-chain m own (counted m plan) k a h .1) (upstream-chain m own (counted m plan) a b l .1))
+      (upstream-nodes m own (counted m plan counts) a b l .1)
+      (chain-append (upstream-chain m own (counted m plan counts) k a h .1) (upstream-chain m own (counted m plan counts) a b l .1))

@@ -29,11 +29,11 @@ module _ (m : Model) (groups : Grouping) (counting : ℕ → List ℕ) where
     direct : {k a : ℕ} (v : ℕ) → List·Memᴰ v (counting k) → NamesOutside m groups v a → Ancestor k a
     through : {k a : ℕ} (v b : ℕ) → List·Memᴰ v (counting k) → NamesOutside m groups v b → Ancestor b a → Ancestor k a
 
--- upstream under a plan
-abbrev pub upstreamIn : Model → List ℕ → ℕ → ℕ → Bool
-upstreamIn m plan = upstream m (groupsIn m plan) (counted m plan)
+-- upstream under a plan, by a test of the moves that count
+abbrev pub upstreamIn : Model → List ℕ → (ℕ → Bool) → ℕ → ℕ → Bool
+upstreamIn m plan counts = upstream m (groupsIn m plan) (counted m plan counts)
 
 abbrev pub UpstreamRight : Type 0
 UpstreamRight =
-    (m : Model) (plan : List ℕ) (k a : ℕ) → Valid m → wellShaped m plan ≡ true → k < groupCount (groupsIn m plan)
-    → (upstreamIn m plan k a ≡ true) ↔ Ancestor m (groupsIn m plan) (counted m plan) k a
+    (m : Model) (plan : List ℕ) (counts : ℕ → Bool) (k a : ℕ) → Valid m → wellShaped m plan ≡ true → k < groupCount (groupsIn m plan)
+    → (upstreamIn m plan counts k a ≡ true) ↔ Ancestor m (groupsIn m plan) (counted m plan counts) k a

@@ -15,7 +15,7 @@ use Rattle.plan.specs.Reading.{groupsIn, entryAt, wellShaped}
 use Rattle.command.specs.State.{modeOf, stateFaults}
 use Rattle.command.specs.Goal.{goalFaults}
 use Rattle.command.specs.Goal.{Masks, goalMasks, guardMasks, met, allowed}
-use Rattle.command.specs.Attainable.{groups, present, attainFaults}
+use Rattle.command.specs.Attainable.{groups, present, coverFaults}
 
 -- what next command gives: done, or a machine and a command byte
 pub data Next : Type 0 where
@@ -78,7 +78,7 @@ module _ (m : Model) (plan : List ℕ) (state : List ℕ) where
 
 -- 13, 14, then 16 to 18: what a call with a fitting plan is refused for
 unfoldable pub goalRefusals : Model → List ℕ → List ℕ → List ℕ → List Fault
-goalRefusals m plan state goal = stateFaults m state ++ goalFaults m goal ++ attainFaults m plan state (goalMasks m goal)
+goalRefusals m plan state goal = stateFaults m state ++ goalFaults m goal ++ coverFaults m plan state (goalMasks m goal)
 
 -- the shape of 15
 unfoldable pub misshapen : Model → List ℕ → Bool

@@ -1,26 +1,28 @@
--- The moves that count as naming other groups: they are moves of the group, and every usable one is among them.
+-- The moves that count as naming other groups: those of the group that a test tells.
 --
 -- Nothing else opens `counted`. Assumes nothing.
 use Prim.Native.Nat.{ℕ}
 use mathlib.Core.Path.{_≡_, refl}
 use mathlib.Core.List.{List, List·Memᴰ}
+use mathlib.Core.Bool.{Bool, true}
+use Rattle.common.proofs.Lists.{all-intro, filter-mem, filter-from, filter-all}
 use Rattle.sheet.specs.Model.{Model}
 use Rattle.plan.specs.Groups.{movesOf}
-use Rattle.plan.specs.Reading.{groupsIn}
-use Rattle.plan.specs.Reading.{counted}
+use Rattle.plan.specs.Reading.{groupsIn, counted, everyMove}
 
 -- under a plan
-module _ (m : Model) (plan : List ℕ) (k : ℕ) where
-  pub counted-moves : {v : ℕ} → List·Memᴰ v (counted m plan k) → List·Memᴰ v (movesOf m (groupsIn m plan) k)
+module _ (m : Model) (plan : List ℕ) (counts : ℕ → Bool) (k : ℕ) where
+  pub counted-moves : {v : ℕ} → List·Memᴰ v (counted m plan counts k) → List·Memᴰ v (movesOf m (groupsIn m plan) k)
   unfolding counted
-  counted-moves l = l
+  counted-moves l = filter-from counts _ l
 
-  pub usable-counts : (Usable : ℕ → Type 0) {v : ℕ} → List·Memᴰ v (movesOf m (groupsIn m plan) k) → Usable v
-      → List·Memᴰ v (counted m plan k)
+  pub moves-counted : {v : ℕ} → List·Memᴰ v (movesOf m (groupsIn m plan) k) → counts v ≡ true
+      → List·Memᴰ v (counted m plan counts k)
   unfolding counted
-  usable-counts Usable l u = l
+  moves-counted l t = filter-mem counts l t
 
-  -- as for the bound that planning writes
-  pub counted-planned : counted m plan k ≡ movesOf m (groupsIn m plan) k
-  unfolding counted
-  counted-planned = refl
+-- where every move counts
+pub counted-all : (m : Model) (plan : List ℕ) (k : ℕ) → counted m plan everyMove k ≡ movesOf m (groupsIn m plan) k
+unfolding counted
+counted-all m plan k =
+    filter-all everyMove (movesOf m (groupsIn m plan) k) (all-intro everyMove (movesOf m (groupsIn m plan) k) (λ v l. refl))

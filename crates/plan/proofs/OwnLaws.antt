@@ -16,7 +16,7 @@ use Rattle.plan.specs.Table.{entryOf}
 use Rattle.plan.specs.Bound.{longest, planBound}
 use Rattle.plan.specs.Meaning.{Route, Usable, EntryRight, here, move, always}
 use Rattle.plan.specs.Laws.{TableLaws, RouteLaws, CostLaws, PlanLaws, Connects, IsDistance}
-use Rattle.plan.specs.Reading.{counted}
+use Rattle.plan.specs.Reading.{counted, everyMove}
 use Rattle.plan.proofs.Named.{named-below}
 use Rattle.plan.proofs.Routes.{allRoutes}
 use Rattle.plan.proofs.Words.{live-means, meets-means, named-means}
@@ -26,7 +26,7 @@ use Rattle.plan.proofs.Distances.{route-append, route-zero, between-lon
 use Rattle.plan.proofs.Entries.{entry-near, near-of-distance, entry-route, entry-at-most, entry-connects}
 use Rattle.plan.proofs.Entries.{entry-right}
 use Rattle.plan.proofs.EntryBytes.{entry-bytes}
-use Rattle.plan.proofs.Counted.{counted-planned}
+use Rattle.plan.proofs.Counted.{counted-all}
 use Rattle.plan.proofs.Costs.{costOf, cost-rule, bound-sum}
 
 -- what a plan says over these groups is what is computed from them
@@ -45,7 +45,7 @@ longestOf m groups k = longest (getD (allRoutes m groups) k [])
 
 -- the laws, said of given groups
 abbrev pub LawsFor : Model → List ℕ → Grouping → Type 0
-LawsFor m plan groups = PlanLaws m plan (Usable m groups) (longestOf m groups) (costOf m groups (allRoutes m groups))
+LawsFor m plan groups = PlanLaws m plan everyMove (Usable m groups) (longestOf m groups) (costOf m groups (allRoutes m groups))
 
 module _ (m : Model) (groups : Grouping) (plan : List ℕ) (reads : ReadsBack m groups plan) where
   module _ (k p q : ℕ) (h : k < groupCount groups) (hp : p < size m groups k) (hq : q < size m groups k) where
@@ -126,10 +126,11 @@ module _ (m : Model) (plan : List ℕ) (reads : ReadsBack m (groupsIn m plan) pl
         rw (step-endMode m (o .valid) own (o .all-machines) s) (own-at-most m own plan reads k r q h (s .wanted) hq on),
       )
 
-  table-laws : TableLaws m plan (Usable m own) (longestOf m own)
+  table-laws : TableLaws m plan everyMove (Usable m own) (longestOf m own)
   table-laws =
       record {
         shaped = reads .shaped;
+        usable-counts = λ v h u. refl;
         byte-entries = own-bytes m own plan reads;
         zero-self = λ k p h hp. entries k p p h hp hp .itself refl .0;
         self-zero = λ k p q h hp hq z. route-zero (entries k p q h hp hq .shortest 0 (λ e. omega arith) .0 z .0);
@@ -151,10 +152,10 @@ module _ (m : Model) (plan : List ℕ) (reads : ReadsBack m (groupsIn m plan) pl
             live q .1 (stays-live (o .valid) own k _ p q (route k p q h hp hq i) (live p .0 t));
       }
 
-  cost-laws : CostLaws m plan (counted m plan) (longestOf m own) (costOf m own (allRoutes m own))
+  cost-laws : CostLaws m plan (counted m plan everyMove) (longestOf m own) (costOf m own (allRoutes m own))
   cost-laws =
       record {
-        cost-is = λ k h. rw (counted-planned m plan k) (cost-rule m own (allRoutes m own) (o .first) h);
+        cost-is = λ k h. rw (counted-all m plan k) (cost-rule m own (allRoutes m own) (o .first) h);
         bound-is = reads .bound-read ∙ bound-sum m own (allRoutes m own);
       }
 

@@ -2,7 +2,7 @@
 use Prim.Native.Nat.{ℕ, suc, _+_, _*_, _≤_, _<_}
 use mathlib.Core.Path.{_≡_}
 use mathlib.Core.List.{List, _∷_, [], map, List·Memᴰ}
-use mathlib.Core.Bool.{true}
+use mathlib.Core.Bool.{Bool, true}
 use Rattle.common.specs.Lists.{upTo, sum}
 use Rattle.common.specs.Reply.{given}
 use Rattle.sheet.specs.Model.{Model, moveCount, moveAt}
@@ -12,7 +12,7 @@ use Rattle.plan.specs.Modes.{size, liveMode}
 use Rattle.plan.specs.Usable.{meets, leads, endMode}
 use Rattle.plan.specs.Meaning.{Usable}
 use Rattle.plan.specs.Planning.{planReply}
-use Rattle.plan.specs.Reading.{groupsIn, entryAt, boundIn, wellShaped, counted}
+use Rattle.plan.specs.Reading.{groupsIn, entryAt, boundIn, wellShaped, counted, everyMove}
 
 -- a distance of the plan that is a route
 abbrev pub IsDistance : Model → List ℕ → ℕ → ℕ → ℕ → ℕ → Type 0
@@ -26,9 +26,12 @@ module _ (m : Model) (plan : List ℕ) where
   abbrev groups : Grouping
   groups = groupsIn m plan
 
-  -- The tables; `IsUsable` says which moves are usable, `longest` gives L of each group.
-  pub record TableLaws (IsUsable : ℕ → Type 0) (longest : ℕ → ℕ) : Type 0 where
+  -- The tables; `counts` tells the moves that count as naming other groups, `IsUsable` those that are usable, `longest` gives L of
+  -- each group.
+  pub record TableLaws (counts : ℕ → Bool) (IsUsable : ℕ → Type 0) (longest : ℕ → ℕ) : Type 0 where
     pub shaped : wellShaped m plan ≡ true
+    -- a usable move counts
+    pub usable-counts : (v : ℕ) → v < moveCount m → IsUsable v → counts v ≡ true
     -- entries are bytes
     pub byte-entries : (k p q : ℕ) → k < groupCount groups → p < size m groups k → q < size m groups k
         → entryAt m plan k p q .distance ≤ 255
@@ -67,13 +70,13 @@ module _ (m : Model) (plan : List ℕ) where
     pub bound-is : boundIn m plan ≡ sum (map cost (upTo (groupCount groups)))
 
   -- all of them
-  pub record PlanLaws (IsUsable : ℕ → Type 0) (longest cost : ℕ → ℕ) : Type 0 where
-    pub tables : TableLaws IsUsable longest
+  pub record PlanLaws (counts : ℕ → Bool) (IsUsable : ℕ → Type 0) (longest cost : ℕ → ℕ) : Type 0 where
+    pub tables : TableLaws counts IsUsable longest
     pub routes : RouteLaws IsUsable
-    pub costs : CostLaws (counted m plan) longest cost
+    pub costs : CostLaws (counted m plan counts) longest cost
 
 -- The plan that planning writes has them.
 abbrev pub Lawful : Type 0
 Lawful =
     (sheet plan : List ℕ) (buffer scratch : ℕ) (d : Parsed) → parse sheet ≡ given d → planReply sheet buffer scratch ≡ given plan
-    → (longest : ℕ → ℕ) × (cost : ℕ → ℕ) × PlanLaws (d .model) plan (Usable (d .model) (groupsOf (d .model))) longest cost
+    → (longest : ℕ → ℕ) × (cost : ℕ → ℕ) × PlanLaws (d .model) plan everyMove (Usable (d .model) (groupsOf (d .model))) longest cost

@@ -1,10 +1,10 @@
 -- Reading a plan back, whoever wrote it: its shape (15), its grouping and its entries.
 use Prim.Native.Nat.{ℕ, _+_, _*_}
 use mathlib.Core.List.{List}
-use mathlib.Core.Bool.{Bool, false, not, _&&_}
+use mathlib.Core.Bool.{Bool, true, false, not, _&&_}
 use lib.ListN.{length}
 use lib.Dec.{eqb, leb}
-use Rattle.common.specs.Lists.{upTo, all, any}
+use Rattle.common.specs.Lists.{upTo, all, any, filter}
 use Rattle.sheet.specs.declared.record.Record.{Record}
 use Rattle.sheet.specs.declared.record.Record.the-variants.{Whole, Cut}
 use Rattle.sheet.specs.Record.{byte, recordAt, part}
@@ -76,6 +76,10 @@ boundIn m plan =
     let at = tableAt m (groupsIn m plan) (groupCount (groupsIn m plan)) + 4 in
     byte plan at + 256 * byte plan (at + 1) + 65536 * byte plan (at + 2) + 16777216 * byte plan (at + 3)
 
--- those moves of group k that count as naming other groups, under a plan: all of the group
-unfoldable pub counted : Model → List ℕ → ℕ → List ℕ
-counted m plan k = movesOf m (groupsIn m plan) k
+-- those moves of group k that count as naming other groups, under a plan, by a test of moves
+unfoldable pub counted : Model → List ℕ → (ℕ → Bool) → ℕ → List ℕ
+counted m plan counts k = filter counts (movesOf m (groupsIn m plan) k)
+
+-- the test: every move counts
+abbrev pub everyMove : ℕ → Bool
+everyMove v = true

@@ -3,7 +3,7 @@ use Prim.Native.Nat.{ℕ, _+_, _/_, _≤_, _<_}
 use mathlib.Core.Path.{_≡_}
 use mathlib.Core.Logic.{_↔_}
 use mathlib.Core.List.{List, List·Memᴰ}
-use mathlib.Core.Bool.{true, false, not, _&&_, _||_}
+use mathlib.Core.Bool.{Bool, true, false, not, _&&_, _||_}
 use lib.ListN.{length, getD}
 use lib.Dec.{eqb, ltb}
 use Rattle.common.specs.Bits.{bit, beyond}
@@ -21,7 +21,7 @@ use Rattle.plan.specs.Bytes.{tableAt}
 use Rattle.plan.specs.Table.{Entry}
 use Rattle.plan.specs.Reading.{groupsIn, entryAt, wellShaped}
 use Rattle.plan.specs.Kept.Outline.{Outlined}
-use Rattle.plan.specs.Reading.{counted}
+use Rattle.plan.specs.Reading.{counted, everyMove}
 use Rattle.plan.specs.declared.opening.Outline.{Outline}
 use Rattle.command.specs.State.{modeOf, stateFaults}
 use Rattle.command.specs.Goal.{Masks, anyMode, met, allowed}
@@ -95,33 +95,33 @@ module _ (m : Model) (plan state : List ℕ) where
     pub bits : (k : ℕ) → bit s k ≡ (bit among k && deadEnd m plan state masks k)
 
 -- what 16 and 18 look for: of group k and those upstream of it, those that are not live; of those upstream, the stranded
-pub record Hindered (m : Model) (plan state : List ℕ) (masks : Masks) (k dead lost : ℕ) : Type 0 where
-  pub dead-bits : (a : ℕ) → bit dead a ≡ ((eqb a k || upstreamIn m plan k a) && not (liveGroup m plan state a))
-  pub lost-bits : (a : ℕ) → bit lost a ≡ (upstreamIn m plan k a && deadEnd m plan state masks a)
+pub record Hindered (m : Model) (plan : List ℕ) (counts : ℕ → Bool) (state : List ℕ) (masks : Masks) (k dead lost : ℕ) : Type 0 where
+  pub dead-bits : (a : ℕ) → bit dead a ≡ ((eqb a k || upstreamIn m plan counts k a) && not (liveGroup m plan state a))
+  pub lost-bits : (a : ℕ) → bit lost a ≡ (upstreamIn m plan counts k a && deadEnd m plan state masks a)
 
 -- a counted move of group c names group a
-abbrev pub Names : Model → List ℕ → ℕ → ℕ → Type 0
-Names m plan c a = List·Memᴰ a (namedOutside m (groupsIn m plan) c (counted m plan c))
+abbrev pub Names : Model → List ℕ → (ℕ → Bool) → ℕ → ℕ → Type 0
+Names m plan counts c a = List·Memᴰ a (namedOutside m (groupsIn m plan) c (counted m plan counts c))
 
 -- for each group, the set of the other groups that its counted moves name
-pub record NamedBy (m : Model) (plan named : List ℕ) : Type 0 where
-  pub bits : (k a : ℕ) → k < 32 → bit (getD named k 0) a ≡ any (eqb a) (namedOutside m (groupsIn m plan) k (counted m plan k))
+pub record NamedBy (m : Model) (plan : List ℕ) (counts : ℕ → Bool) (named : List ℕ) : Type 0 where
+  pub bits : (k a : ℕ) → k < 32 → bit (getD named k 0) a ≡ any (eqb a) (namedOutside m (groupsIn m plan) k (counted m plan counts k))
 
 -- s holds the groups upstream of group k
-pub record UpstreamSet (m : Model) (plan : List ℕ) (k s : ℕ) : Type 0 where
-  pub bits : (a : ℕ) → bit s a ≡ upstreamIn m plan k a
+pub record UpstreamSet (m : Model) (plan : List ℕ) (counts : ℕ → Bool) (k s : ℕ) : Type 0 where
+  pub bits : (a : ℕ) → bit s a ≡ upstreamIn m plan counts k a
 
 -- s holds the groups that are upstream of one of some groups, all of them groups of the plan
-pub record UpstreamOfSome (m : Model) (plan : List ℕ) (groups s : ℕ) : Type 0 where
-  pub bits : GroupsOnly m plan groups → (a : ℕ) → bit s a ≡ any (λ k. bit groups k && upstreamIn m plan k a) (upTo 32)
+pub record UpstreamOfSome (m : Model) (plan : List ℕ) (counts : ℕ → Bool) (groups s : ℕ) : Type 0 where
+  pub bits : GroupsOnly m plan groups → (a : ℕ) → bit s a ≡ any (λ k. bit groups k && upstreamIn m plan counts k a) (upTo 32)
 
 -- The marks s of what is upstream of some groups, when a pass down the group numbers has been at number j.
-pub record MarkedFrom (m : Model) (plan : List ℕ) (groups j s : ℕ) : Type 0 where
+pub record MarkedFrom (m : Model) (plan : List ℕ) (counts : ℕ → Bool) (groups j s : ℕ) : Type 0 where
   -- from j up they are final
-  pub final : (a : ℕ) → j ≤ a → (bit s a ≡ true) ↔ ((b : ℕ) × (bit groups b ≡ true) × (upstreamIn m plan b a ≡ true))
+  pub final : (a : ℕ) → j ≤ a → (bit s a ≡ true) ↔ ((b : ℕ) × (bit groups b ≡ true) × (upstreamIn m plan counts b a ≡ true))
   -- below j so far those are marked that a group from j up names, if that is one of the groups or marked
   pub so-far : (a : ℕ) → a < j → (bit s a ≡ true)
-      ↔ ((c : ℕ) × (j ≤ c) × (bit s c || bit groups c ≡ true) × Names m plan c a)
+      ↔ ((c : ℕ) × (j ≤ c) × (bit s c || bit groups c ≡ true) × Names m plan counts c a)
 
 -- of the modes of group k, s holds those that a goal allows
 pub record AllowedSet (m : Model) (plan : List ℕ) (masks : Masks) (k s : ℕ) : Type 0 where
@@ -150,7 +150,7 @@ pub record KeptGoal (m : Model) (file plan state : List ℕ) (goal : Masks)
     (bodies starts facts zeros named live masks : List ℕ) (left : ℕ) : Type 0 where
   pub kept : Kept m plan state facts zeros starts
   pub listed : Listed m file bodies
-  pub naming : NamedBy m plan named
+  pub naming : NamedBy m plan everyMove named
   pub lives : live ≡ pad 32 (m .live)
   pub allows : Allows m goal masks
   pub leaves : UnmetSet m plan state goal left

@@ -78,6 +78,7 @@ check-requires c κs =
         p .0 .0,
         _,
         _,
+        _,
         p .0 .1,
         q .kept,
         pursued-placed q e .numbered,
@@ -153,7 +154,7 @@ returns c m goal q =
     let top = at-highest .highest .ensures in
     let left = pursued-left q fit up join sets allowed in
     pursued-replies q fit _
-    (at-check .check .ensures m _ _ goal (q .kept) (pursued-placed q e .numbered) (q .naming) (q .leaves)
+    (at-check .check .ensures m _ _ _ goal (q .kept) (pursued-placed q e .numbered) (q .naming) (q .leaves)
     (pursued-only q fit) (pursued-upper q fit up) (pursued-failed q e (at-failed .failed .ensures)) left
     (pursued-above q fit up join sets allowed))
     (at-told .enum-told .given .1) top
@@ -176,7 +177,7 @@ returns-2 c m goal q =
     let sets = pursued-members q e (at-members .members .ensures) in
     let allowed = at-allowed-sets .allowed-sets .ensures in
     sym (refused-unless _
-    (at-check .check .ensures m _ _ goal (q .kept) (pursued-placed q e .numbered) (q .naming) (q .leaves)
+    (at-check .check .ensures m _ _ _ goal (q .kept) (pursued-placed q e .numbered) (q .naming) (q .leaves)
     (pursued-only q fit) (pursued-upper q fit up) (pursued-failed q e (at-failed .failed .ensures))
     (pursued-left q fit up join sets allowed) (pursued-above q fit up join sets allowed))
     (at-verdict .verdict .given .1) _)
