@@ -142,18 +142,19 @@ joined-none : joined [] ≡ []
 unfolding joined longestGoal maximum upTo
 joined-none = refl
 
+-- it is as short as they are
+pub joined-short : (m : Model) (goals : Goals) → EachFits m goals → length (joined goals) ≤ machineCount m
+joined-short m goals fits =
+    let none : ¬ (machineCount m < length (joined goals)) =
+    λ l. let r = joined-longer goals (machineCount m) .0 l in
+    omega (arith, fits (r .0) (r .1) .0, r .2) in
+    omega arith
+
 module _ (m : Model) (goals : Goals) (valid : Valid m) (fits : EachFits m goals)
     (left : (i : ℕ) → SomeLonger goals i → Shared goals i) where
   joined-modes : (i mode : ℕ) → i < length (joined goals) → (bit (byte (joined goals) i) mode ≡ true) ↔ AllAllow goals i mode
   joined-modes i mode h =
       rw (joined-byte goals i h) (named-exactly m goals valid fits i (joined-longer goals i .0 h) mode)
-
-  joined-short : length (joined goals) ≤ machineCount m
-  joined-short =
-      let none : ¬ (machineCount m < length (joined goals)) =
-      λ l. let r = joined-longer goals (machineCount m) .0 l in
-      omega (arith, fits (r .0) (r .1) .0, r .2) in
-      omega arith
 
   joined-sensible : (i : ℕ) → i < length (joined goals) → Sensible m (joined goals) i
   unfolding nothingShared
@@ -176,7 +177,7 @@ module _ (m : Model) (goals : Goals) (valid : Valid m) (fits : EachFits m goals)
         none = λ e.
             let nothing = ap joined e ∙ joined-none in
             (nothing, λ state i here h. absurd (let f : ⊥ = omega (arith, ap length nothing) in f));
-        passes = (joined-short, joined-sensible);
+        passes = (joined-short m goals fits, joined-sensible);
         longest = joined-longer goals;
         modes = joined-modes;
       }

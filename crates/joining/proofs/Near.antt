@@ -1,4 +1,4 @@
--- Every place that joining names in a refusal is at most 6,196.
+-- Every refusal of joining has a number that is not 0 and a place of at most 6,196.
 -- Assumes nothing.
 use Prim.Native.Nat.{ℕ, _≤_}
 use mathlib.Core.Path.{_≡_, subst}
@@ -14,16 +14,16 @@ use Rattle.sheet.specs.Model.{Model, machineCount}
 use Rattle.sheet.specs.Valid.{Valid}
 use Rattle.sheet.specs.Parse.{parse}
 use Rattle.sheet.proofs.Parsed.{parse-valid}
-use Rattle.sheet.proofs.Place.{refusal-near}
+use Rattle.sheet.proofs.Place.{Near, refusal-near}
 use Rattle.command.specs.Goal.{badByte, goalFaults}
-use Rattle.command.proofs.Near.{Near, none-near, first-near, find-inside}
+use Rattle.command.proofs.Near.{NearReply, none-near, first-near, find-inside}
 use Rattle.joining.specs.Join.{Goals, goalsIn, longestGoal, nothingShared, sharedFaults, eachFaults, joined, joinedReply, joinReply}
 use Rattle.joining.proofs.Slices.{goals-refused}
 
 module _ (m : Model) (valid : Valid m) where
   -- 14 of each goal stands at a machine or at 255, and what follows may count on goals that are not too long
-  each-near : {A : Type 0} (r : Reply A) (goals : Goals) (fs : List Fault) → (longestGoal goals ≤ machineCount m → Near (unless fs r))
-      → Near (unless (eachFaults m goals ++ fs) r)
+  each-near : {A : Type 0} (r : Reply A) (goals : Goals) (fs : List Fault)
+      → (longestGoal goals ≤ machineCount m → NearReply (unless fs r)) → NearReply (unless (eachFaults m goals ++ fs) r)
   unfolding eachFaults goalFaults longestGoal maximum
   each-near r [] fs later = later (omega arith)
   each-near r (goal ∷ goals) fs later =
@@ -35,23 +35,23 @@ module _ (m : Model) (valid : Valid m) where
 
   -- 19 stands at a machine, and 12 at 0
   shared-near : (goals : Goals) (room : ℕ) → longestGoal goals ≤ machineCount m
-      → Near (unless (sharedFaults goals room) (given (joined goals)))
+      → NearReply (unless (sharedFaults goals room) (given (joined goals)))
   unfolding sharedFaults
   shared-near goals room h =
       first-near _ _ _ (omega (arith, find-inside (nothingShared goals) (longestGoal goals), valid .few-machines, h)) (λ n.
       first-near _ _ [] (omega arith) (λ k. none-near _ tt))
 
 pub join-near : (sheet lent : List ℕ) (room : ℕ) {number place : ℕ} → joinReply sheet lent room ≡ refused number place
-    → place ≤ 6196
+    → Near number place
 unfolding joinReply joinedReply
 join-near sheet lent room e =
     ⊎-elim
     (λ unread. refusal-near sheet unread)
     (λ (d, read, later).
     ⊎-elim
-    (λ unsplit. omega (arith, goals-refused _ _ unsplit .1))
+    (λ unsplit. omega (arith, goals-refused _ _ unsplit))
     (λ (goals, split, faulty).
-    subst Near faulty
+    subst NearReply faulty
     (each-near (d .model) (parse-valid sheet read) _ goals _ (shared-near (d .model) (parse-valid sheet read) goals room)))
     (andThen-refused (goalsIn 8 lent) _ later))
     (andThen-refused (parse sheet) _ e)

@@ -20,7 +20,7 @@ use Rattle.sheet.specs.Index.{readingOf, indexReply, sheetOf}
 use Rattle.sheet.proofs.Answers.{machines-in, moves-in}
 use Rattle.sheet.proofs.Indexed.{indexes-machines, indexes-moves, accepted-indexed, refused-parse}
 use Rattle.sheet.proofs.Parsed.{parse-valid}
-use Rattle.sheet.proofs.Place.{refusal-near}
+use Rattle.sheet.proofs.Place.{Near, refusal-near}
 use Rattle.plan.specs.declared.measure.Length.{Length}
 use Rattle.plan.specs.declared.measure.Length.the-variants.{Refused}
 use Rattle.plan.specs.declared.making.Planned.{Planned}
@@ -82,7 +82,7 @@ module _ (s : List ℕ) (r : Reading) (e : readingOf r ≡ indexReply (parse s))
     refused-word = rw (refused-parse s r e a)
 
     pub refused-near : place ≤ 6196
-    refused-near = refusal-near s (refused-parse s r e a)
+    refused-near = refusal-near s (refused-parse s r e a) .near
 
 -- a reply that is a length or a refusal
 module _ (r : Length) (cause : Cause) (place : ℕ) (a : r ≡ Refused cause place) where
@@ -95,12 +95,13 @@ module _ (r : Length) (cause : Cause) (place : ℕ) (a : r ≡ Refused cause pla
 -- its place is near: of the plan's length
 pub measured-near : (s : List ℕ) (r : Length) → measuredOf r ≡ lengthReply s
     → (number place : ℕ) → measuredOf r ≡ refused number place → place ≤ 6196
-measured-near s r e number place a = length-near s (sym e ∙ a)
+measured-near s r e number place a = length-near s (sym e ∙ a) .near
 
 -- and of a call that replies the length of what it writes
-output-near : (q : Reply (List ℕ)) → ((n p : ℕ) → q ≡ refused n p → p ≤ 6196) → (r : Length) → measuredOf r ≡ lengthOf q
+output-near : (q : Reply (List ℕ)) → ((n p : ℕ) → q ≡ refused n p → Near n p) → (r : Length) → measuredOf r ≡ lengthOf q
     → (number place : ℕ) → measuredOf r ≡ refused number place → place ≤ 6196
-output-near q near r e number place a = near _ _ (refused-told lengthOf length (λ out. refl) (λ n p. refl) q (sym a ∙ e))
+output-near q near r e number place a =
+    near _ _ (refused-told lengthOf length (λ out. refl) (λ n p. refl) q (sym a ∙ e)) .near
 
 pub joined-near : (s lent : List ℕ) (room : ℕ) (r : Length) → measuredOf r ≡ lengthOf (joinReply s lent room)
     → (number place : ℕ) → measuredOf r ≡ refused number place → place ≤ 6196
@@ -131,7 +132,7 @@ module _ (s : List ℕ) (buffer scratch : ℕ) (r : Planned) (e : plannedOf r �
     unplanned-word = rw unplanned
 
     pub unplanned-near : place ≤ 6196
-    unplanned-near = plan-near s buffer scratch unplanned
+    unplanned-near = plan-near s buffer scratch unplanned .near
 
 module _ (s plan state goal : List ℕ) (r : Advice) (e : adviceSays r ≡ nextReply s plan state goal) where
   abbrev adviceWord : ℕ
@@ -152,7 +153,13 @@ module _ (s plan state goal : List ℕ) (r : Advice) (e : adviceSays r ≡ nextR
     unadvised-word = ap (λ q. wordOf (commandReply q)) unadvised
 
     pub unadvised-near : place ≤ 6196
-    unadvised-near = next-near s plan state goal (sym unadvised)
+    unadvised-near = next-near s plan state goal (sym unadvised) .near
+
+-- a refusal of applying is near, also where the state is not told
+pub effect-near : (s state : List ℕ) (machine byte : ℕ) {n p : ℕ}
+    → effectReply (applyReply s state machine byte) ≡ refused n p → Near n p
+effect-near s state machine byte e =
+    apply-near s state machine byte (refused-told effectReply effectOf (λ x. refl) (λ n p. refl) _ (sym e))
 
 module _ (s state : List ℕ) (machine byte : ℕ) (r : Change)
     (e : changeSays r ≡ effectReply (applyReply s state machine byte)) where
@@ -174,5 +181,4 @@ module _ (s state : List ℕ) (machine byte : ℕ) (r : Change)
     unapplied-word = ap (λ q. wordOf (moveReply q)) unapplied
 
     pub unapplied-near : place ≤ 6196
-    unapplied-near =
-        apply-near s state machine byte (refused-told effectReply effectOf (λ x. refl) (λ n p. refl) _ unapplied)
+    unapplied-near = effect-near s state machine byte (sym unapplied) .near

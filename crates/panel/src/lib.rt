@@ -1,4 +1,6 @@
 // The C interface: exported functions that put replies into 64 bits. Nothing is decided here.
+pub mod promises;
+
 use command::acting::Change;
 use command::method::Advice;
 use plan::making::Planned;

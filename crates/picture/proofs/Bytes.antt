@@ -39,7 +39,7 @@ module _ (p : Picture) where
   unfolding pictureBytes
   back-byte j i e = ap (byte (front ++ back)) e ∙ getD-append-add front back i 0
 
-  bytes-length : length (pictureBytes p) ≡ 1 + length (p .groups) + 2 * length (p .edges)
+  pub bytes-length : length (pictureBytes p) ≡ 1 + length (p .groups) + 2 * length (p .edges)
   unfolding pictureBytes
   bytes-length = omega (arith, length-append (p .groups) back, length-twos (λ e. e .source) (λ e. e .target) (p .edges))
 

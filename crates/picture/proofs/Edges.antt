@@ -1,5 +1,5 @@
--- The edges that a relation draws: which they are, that they rise, that they tell the relation, and that relations that
--- agree draw the same.
+-- The edges that a relation draws: which they are, that they rise, that they tell the relation, how many they are at
+-- most, and that relations that agree draw the same.
 -- Assumes nothing.
 use Prim.Native.Nat.{ℕ, zero, suc, _-_, _+_, _≤_, _<_}
 use mathlib.Core.Path.{_≡_, refl, sym, ap, ap₂, subst, _∙_}
@@ -16,9 +16,9 @@ use lib.ListN.{length, getD, length-append, length-map, List·getD-append}
 use lib.Seq.{getD-append-add}
 use Rattle.common.specs.Lists.{upTo, any, filter}
 use Rattle.common.proofs.Bools.{by-cases, bool-ext, and-intro, and-left, and-right}
-use Rattle.common.proofs.Members.{mem-getD, flatMap-mem, flatMap-from, upTo-mem, upTo-below, getD-map}
-use Rattle.common.proofs.Lists.{any-intro, any-some, filter-mem, filter-from, filter-holds, filter-cong}
-use Rattle.common.proofs.Sums.{flatMap-upTo-suc, flatMap-cong}
+use Rattle.common.proofs.Members.{mem-getD, flatMap-mem, flatMap-from, upTo-mem, upTo-below, length-upTo, getD-map}
+use Rattle.common.proofs.Lists.{any-intro, any-some, filter-mem, filter-from, filter-holds, filter-cong, length-filter}
+use Rattle.common.proofs.Sums.{sum-mono, sum-constant, length-flatMap, flatMap-upTo-suc, flatMap-cong}
 use Rattle.plan.proofs.ModeDigits.{filter-rises}
 use Rattle.picture.specs.Picture.{Edge, edge, edgesBy}
 use Rattle.picture.specs.Drawn.{Before, noEdge}
@@ -114,6 +114,21 @@ module _ (joined : ℕ → ℕ → Bool) (n : ℕ) where
   pub edgesBy-rises : Rises (edgesBy joined n)
   unfolding edgesBy
   edgesBy-rises = upto-rises n
+
+  -- at most 32 from each of 32 numbers
+  pub edges-few : n ≤ 32 → length (edgesBy joined n) ≤ 1024
+  unfolding edgesBy
+  edges-few few =
+      let most : ℕ → ℕ = λ a. 32 in
+      omega (
+        arith,
+        length-flatMap from (upTo n),
+        sum-mono (λ a. length (from a)) most (upTo n) (λ a a-in.
+            let those = filter (joined a) (upTo n) in
+            omega (arith, length-map those (edge a), length-filter (joined a) (upTo n), length-upTo n)),
+        sum-constant most 32 (upTo n) (λ a a-in. refl),
+        length-upTo n,
+      )
 
 pub edgesBy-cong : (joined other : ℕ → ℕ → Bool) (n : ℕ) → ((a k : ℕ) → a < n → k < n → joined a k ≡ other a k)
     → edgesBy joined n ≡ edgesBy other n

@@ -10,6 +10,7 @@ pub mod Fitting
 pub mod GaplessSet
 pub mod LabelLoop
 pub mod Labels
+pub mod LaidOut
 pub mod LineParts
 pub mod Longest
 pub mod Naming

@@ -1,28 +1,28 @@
--- The places of refusals: a place of the sheet, or 0.
+-- The refusals of drawing and reading: their numbers are not 0, and the place is one of the sheet, or 0.
 -- Assumes nothing.
-use Prim.Native.Nat.{ℕ, _≤_}
+use Prim.Native.Nat.{ℕ}
 use mathlib.Core.Path.{_≡_}
 use mathlib.Core.Logic.{⊎-elim}
 use mathlib.Core.List.{List}
 use native.Mathlib.Omega.{arith}
 use Rattle.common.specs.Reply.{refused}
 use Rattle.common.proofs.Reply.{andThen-refused, refused-cause, refused-ways, caused-each}
-use Rattle.sheet.proofs.Place.{refusal-near}
+use Rattle.sheet.proofs.Place.{Near, refusal-near}
 use Rattle.picture.specs.Graph.{fitted, graphReply, readAs, readReply}
 
-fitted-near : (out : List ℕ) (room : ℕ) {n p : ℕ} → fitted out room ≡ refused n p → p ≤ 6196
+fitted-near : (out : List ℕ) (room : ℕ) {n p : ℕ} → fitted out room ≡ refused n p → Near n p
 unfolding fitted
-fitted-near out room e = caused-each (λ n p. p ≤ 6196) (omega arith) (refused-cause _ _ e)
+fitted-near out room e = caused-each Near (omega arith) (refused-cause _ _ e)
 
-pub draw-near : (s : List ℕ) (room : ℕ) {n p : ℕ} → graphReply s room ≡ refused n p → p ≤ 6196
+pub draw-near : (s : List ℕ) (room : ℕ) {n p : ℕ} → graphReply s room ≡ refused n p → Near n p
 unfolding graphReply
 draw-near s room e =
     ⊎-elim (λ unread. refusal-near s unread) (λ (d, read, full). fitted-near _ room full) (andThen-refused _ _ e)
 
-pub read-near : (text : List ℕ) (room : ℕ) {n p : ℕ} → readReply text room ≡ refused n p → p ≤ 6196
+pub read-near : (text : List ℕ) (room : ℕ) {n p : ℕ} → readReply text room ≡ refused n p → Near n p
 unfolding readReply readAs
 read-near text room e =
     ⊎-elim
-    (λ cause. caused-each (λ n p. p ≤ 6196) (omega arith) cause)
+    (λ cause. caused-each Near (omega arith) cause)
     (λ (c, full). fitted-near _ room full)
     (refused-ways _ _ e)

@@ -20,6 +20,8 @@ use Rattle.picture.specs.Reading.{saidNothing, saidAfter, takenApart, dr
 use Rattle.picture.specs.Graph.{fitted, graphReply, sameBytes, isText, readAs, readReply}
 use Rattle.picture.specs.Drawn.{HasSheet, DrawsRight, ReadsRight, PicturesRight}
 use Rattle.picture.proofs.Bytes.{bytes-right}
+use Rattle.picture.proofs.DrawableMeans.{drawable-means}
+use Rattle.picture.proofs.LaidOut.{laid-out}
 use Rattle.picture.proofs.Naming.{picture-right}
 use Rattle.picture.proofs.Numbers.{pictures-are-drawable}
 use Rattle.picture.proofs.Sheets.{every-drawable-has-a-sheet}
@@ -123,7 +125,11 @@ draws-right sheet room =
 pub pictures-right : PicturesRight
 pictures-right =
     record {
-      pictures = λ sheet d parses. (picture-right (accepted-valid sheet d parses .0), bytes-right (d .model));
+      pictures = λ sheet d parses. (
+        picture-right (accepted-valid sheet d parses .0),
+        bytes-right (d .model),
+        laid-out (drawn sheet parses) (drawable-means _ .0 (drawn-drawable sheet parses)),
+      );
       draws = draws-right;
       reads = reads-right;
     }

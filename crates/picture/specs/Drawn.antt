@@ -14,6 +14,7 @@ use Rattle.plan.specs.Groups.{groupOf, groupsOf}
 use Rattle.plan.specs.Meaning.{MoveOf, NamesOutside}
 use Rattle.picture.specs.Picture.{Edge, edge, pictureOf, pictureBytes}
 use Rattle.picture.specs.Text.{textOf}
+use Rattle.picture.specs.Layout.{LaidOut}
 use Rattle.picture.specs.Graph.{graphReply, readReply}
 
 -- by source, then by target
@@ -71,8 +72,11 @@ pub record ReadsRight (text : List ℕ) (room : ℕ) : Type 0 where
 
 -- All of it, for every sheet, text and length of the buffer.
 pub record PicturesRight : Type 0 where
+  -- a sheet's picture, its bytes and its text
   pub pictures : (sheet : List ℕ) (d : Parsed) → parse sheet ≡ given d
-      → PictureRight (d .model) × BytesRight (d .model) (pictureBytes (pictureOf (d .model)))
+      → PictureRight (d .model)
+      × BytesRight (d .model) (pictureBytes (pictureOf (d .model)))
+      × LaidOut (pictureOf (d .model)) (textOf (pictureOf (d .model)))
   pub draws : (sheet : List ℕ) (room : ℕ) → DrawsRight sheet room
   pub reads : (text : List ℕ) (room : ℕ) → ReadsRight text room
 

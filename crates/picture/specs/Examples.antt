@@ -1,8 +1,7 @@
 -- Drawn and read: calls with their whole answers, and pictures with their whole texts, as rows of tables over the
 -- definitions. The texts are quoted, not made by the definitions.
 use Prim.Native.Nat.{ℕ}
-use Prim.Native.Char.{code}
-use Prim.Native.String.{String, _++_, [] as none, _∷_ as _then_}
+use Prim.Native.String.{String, _++_}
 use mathlib.Core.Path.{_≡_, refl}
 use mathlib.Core.List.{List, [], _∷_, map, flatMap}
 use lib.ListN.{replicate}
@@ -23,14 +22,10 @@ use Rattle.plan.specs.Groups.{movesOf, namesGroup, namedOutside}
 use Rattle.decimal.specs.Decimal.{digit, digits, decimal, isDigit, numberAfter, leadingNumber}
 use Rattle.picture.specs.Picture.{Edge, edge, edgesBy, namedBy, pictureOf, pictureBytes}
 use Rattle.picture.specs.Text.{lineStart, labels, nodeLine, edgeLine, textOf}
+use Rattle.picture.specs.Layout.{bytes}
 use Rattle.picture.specs.Reading.{andMachine, andGroup, andNumber, saidAfter, takenApart, ready, inTurn}
 use Rattle.picture.specs.Reading.{drawable}
 use Rattle.picture.specs.Graph.{fitted, graphReply, sameBytes, isText, readAs, readReply}
-
--- a text in bytes
-abbrev pub bytes : String → List ℕ
-bytes none = []
-bytes (c then cs) = code c ∷ bytes cs
 
 -- lines between the first and the last
 abbrev pub graph : String → List ℕ

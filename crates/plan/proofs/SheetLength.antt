@@ -1,5 +1,5 @@
 -- The length of the plan of a sheet that has been read: its own group numbers fit the arrays, and the reply is that of
--- tests 1 to 10, with a place that is small.
+-- tests 1 to 10, with a number that is not 0 and a place that is small.
 -- Assumes nothing.
 use Prim.Native.Nat.{ℕ, _≤_}
 use mathlib.Core.Path.{_≡_, sym, ap, _∙_}
@@ -16,7 +16,7 @@ use Rattle.sheet.specs.Parse.{Parsed, parse}
 use Rattle.sheet.specs.Kept.Indexed.{Indexes}
 use Rattle.sheet.proofs.Indexed.{indexes-valid, indexes-machines, indexes-modes}
 use Rattle.sheet.proofs.Parsed.{parse-valid}
-use Rattle.sheet.proofs.Place.{refusal-near}
+use Rattle.sheet.proofs.Place.{Near, refusal-near}
 use Rattle.plan.specs.Groups.{groupCount, groupsOf}
 use Rattle.plan.specs.Planning.{large, largePlace, sizeFaults, lengthReply, planReply}
 use Rattle.plan.specs.Kept.Sizes.{SmallNumbers, CountsOf}
@@ -56,7 +56,6 @@ module _ {s : List ℕ} {x : Sheet} {m : Model} (i : Indexes s x m) where
         → r ≡ lengthWith m (groupsOf m)
     own-length f = f m numbers-length (indexes-modes i) ∙ ap (lengthWith m) numbers-are
 
--- the place of a refusal is that of a record, or a machine's number
 -- the place of 9 is a machine's number
 large-place-near : (s : List ℕ) {d : Parsed} → parse s ≡ given d → largePlace (d .model) (groupsOf (d .model)) ≤ 6196
 unfolding largePlace
@@ -65,22 +64,23 @@ large-place-near s {d} read =
     let small = smallest-inside groups (find (large (d .model) groups) (upTo (groupCount groups)) 0) in
     omega (arith, parse-valid s read .few-machines, length-groupsOf (d .model))
 
-pub length-near : (s : List ℕ) {n p : ℕ} → lengthReply s ≡ refused n p → p ≤ 6196
+-- the place of a refusal is that of a record, or a machine's number
+pub length-near : (s : List ℕ) {n p : ℕ} → lengthReply s ≡ refused n p → Near n p
 unfolding lengthReply sizeFaults
 length-near s e =
     ⊎-elim
     (λ unread. refusal-near s unread)
     (λ (d, read, faulty).
     let near = large-place-near s read in
-    caused-each (λ n p. p ≤ 6196) (omega arith) (refused-cause _ _ faulty))
+    caused-each Near (omega arith) (refused-cause _ _ faulty))
     (andThen-refused (parse s) _ e)
 
-pub plan-near : (s : List ℕ) (buffer scratch : ℕ) {n p : ℕ} → planReply s buffer scratch ≡ refused n p → p ≤ 6196
+pub plan-near : (s : List ℕ) (buffer scratch : ℕ) {n p : ℕ} → planReply s buffer scratch ≡ refused n p → Near n p
 unfolding planReply sizeFaults
 plan-near s buffer scratch e =
     ⊎-elim
     (λ unread. refusal-near s unread)
     (λ (d, read, faulty).
     let near = large-place-near s read in
-    caused-each (λ n p. p ≤ 6196) (omega arith) (refused-cause _ _ faulty))
+    caused-each Near (omega arith) (refused-cause _ _ faulty))
     (andThen-refused (parse s) _ e)

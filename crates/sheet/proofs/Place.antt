@@ -1,6 +1,6 @@
 -- Every refusal of a sheet has a number from 1 to 8 and a place within the file, or just behind it, at most 6,196.
 -- Assumes nothing.
-use Prim.Native.Nat.{ℕ, _≤_}
+use Prim.Native.Nat.{ℕ, _≤_, _<_}
 use mathlib.Core.Path.{_≡_, refl, subst}
 use mathlib.Core.Logic.{⊎-elim}
 use mathlib.Core.List.{List}
@@ -26,6 +26,11 @@ pub record Listed (s : List ℕ) (n p : ℕ) : Type 0 where
   pub from-one : 1 ≤ n
   pub to-eight : n ≤ 8
   pub inside : p ≤ length s
+  pub near : p ≤ 6196
+
+-- what every refusal of every call has: a number that is not 0, and a place that is small
+pub record Near (n p : ℕ) : Type 0 where
+  pub some : 0 < n
   pub near : p ≤ 6196
 
 -- each cause of a record has a number from 2 to 8 and the record's place
@@ -74,5 +79,5 @@ module _ (s : List ℕ) {n p : ℕ} (q : parse s ≡ refused n p) where
   pub refusal-place : p ≤ length s
   refusal-place = parse-listed .inside
 
-  pub refusal-near : p ≤ 6196
-  refusal-near = parse-listed .near
+  pub refusal-near : Near n p
+  refusal-near = let listed = parse-listed in omega arith
