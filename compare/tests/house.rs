@@ -199,16 +199,19 @@ fn declarations(texts: &[String]) -> BTreeMap<&str, Vec<BTreeSet<&str>>> {
 
 /// `a`, `b` and `c` of `Record`: each record so named, with the names before it.
 fn cited_fields(page: &str) -> Vec<(&str, Vec<&str>)> {
+    let is_record = |word: &str| word.starts_with(|c: char| c.is_ascii_uppercase());
     let parts: Vec<_> = page.split('`').collect();
     let mut cited = Vec::new();
     for at in (3..parts.len()).step_by(2) {
-        let is_record = parts[at].starts_with(|c: char| c.is_ascii_uppercase());
-        if !is_record || parts[at - 1] != " of " {
+        if !is_record(parts[at]) || parts[at - 1] != " of " {
             continue;
         }
-        let mut names = vec![parts[at - 2]];
         let mut front = at - 2;
-        while front > 2 && [", ", " and "].contains(&parts[front - 1]) {
+        let mut names = vec![parts[front]];
+        while front > 2
+            && [", ", " and "].contains(&parts[front - 1])
+            && !is_record(parts[front - 2])
+        {
             front -= 2;
             names.push(parts[front]);
         }
