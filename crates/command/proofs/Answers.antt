@@ -55,7 +55,8 @@ module _ {lent : Lent} {d : Parsed} {Usable : ℕ → Type 0} {longest cost : �
   -- the caller's goal is covered exactly where 16 to 18 pass
   covers : (state : List ℕ) → Sound (d .model) state
       → (clear (coverFaults (d .model) (lent .plan) state (goalMasks (d .model) (lent .goal))) ≡ true)
-      ↔ Covered (d .model) (lent .plan) everyMove (Attains (d .model) (lent .plan)) (Safe (d .model) (lent .plan)) (goalMasks (d .model) (lent .goal)) state (count (d .model) lent)
+      ↔ Covered (d .model) (lent .plan) everyMove (Attains (d .model) (lent .plan)) (Safe (d .model) (lent .plan))
+      (goalMasks (d .model) (lent .goal)) state (count (d .model) lent)
   covers state sound =
       let tables = ground .laws .tables in
       Facts.covered-exactly (d .model) (ground .valid) (lent .plan) everyMove (tables .shaped) (tables .byte-entries) state sound _

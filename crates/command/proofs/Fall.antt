@@ -118,7 +118,8 @@ module _ {m : Model} {plan : List ℕ} {counts : ℕ → Bool} {Usable : ℕ →
       ∙ s k _ (omega arith) n) u))
       (mem-or-not k scope)
 
-cost-outside : {m : Model} {plan : List ℕ} (counts : ℕ → Bool) {longest cost : ℕ → ℕ} → CostLaws m plan (counted m plan counts) longest cost → (k : ℕ)
+cost-outside : {m : Model} {plan : List ℕ} (counts : ℕ → Bool) {longest cost : ℕ → ℕ}
+    → CostLaws m plan (counted m plan counts) longest cost → (k : ℕ)
     → k < groupCount (groups m plan) → cost k ≡ longest k * (1 + outsideCost m plan counts cost k)
 unfolding outsideCost
 cost-outside counts costs k h = costs .cost-is k h
@@ -138,7 +139,8 @@ module _ {m : Model} {plan : List ℕ} {counts : ℕ → Bool} {Usable : ℕ →
       omega (arith, cost-outside counts costs k le, sumBelow-mem cost i)
 
 module _ {m : Model} {plan : List ℕ} {counts : ℕ → Bool} {Usable : ℕ → Type 0} {longest cost : ℕ → ℕ} (valid : Valid m)
-    (tables : TableLaws m plan counts Usable longest) {S : Masks → ℕ → ℕ → Type 0} (safe : SafeLaws m plan Usable S) (costs : CostLaws m plan (counted m plan counts) longest cost)
+    (tables : TableLaws m plan counts Usable longest) {S : Masks → ℕ → ℕ → Type 0} (safe : SafeLaws m plan Usable S)
+    (costs : CostLaws m plan (counted m plan counts) longest cost)
     {state : List ℕ} (sound : Sound m state) where
   pub fall-bounded : (g : ℕ) → g ≤ groupCount (groups m plan) → (masks : Masks) (scope : List ℕ)
       → Scoped m plan masks scope g → Covered m plan counts (Attains m plan) S masks state g

@@ -52,7 +52,8 @@ module _ (m : Model) (plan : List ℕ) (counts : ℕ → Bool) (state state′ :
       needs e = fall m plan counts cost state′ (guardMasks m (groups m plan) k (moveAt m (e .move))) (named m plan counts k) k
 
 module _ {m : Model} {plan : List ℕ} {counts : ℕ → Bool} {Usable : ℕ → Type 0} {longest cost : ℕ → ℕ} (valid : Valid m)
-    (tables : TableLaws m plan counts Usable longest) {S : Masks → ℕ → ℕ → Type 0} (safe : SafeLaws m plan Usable S) (costs : CostLaws m plan (counted m plan counts) longest cost)
+    (tables : TableLaws m plan counts Usable longest) {S : Masks → ℕ → ℕ → Type 0} (safe : SafeLaws m plan Usable S)
+    (costs : CostLaws m plan (counted m plan counts) longest cost)
     {state : List ℕ} (sound : Sound m state) (state′ : List ℕ) where
   abbrev Falls : Masks → List ℕ → ℕ → Type 0
   Falls masks scope g = fall m plan counts cost state′ masks scope g < fall m plan counts cost state masks scope g

@@ -74,7 +74,8 @@ module _ (m : Model) (lent : Lent) where
     pub machine-is : i ≡ moveAt m move .machine
     pub byte-is : c ≡ moveAt m move .command
 
-  pub record Kept (counts : ℕ → Bool) (S : Masks → ℕ → ℕ → Type 0) (Usable : ℕ → Type 0) (cost : ℕ → ℕ) (s : Situation) : Type 0 where
+  pub record Kept (counts : ℕ → Bool) (S : Masks → ℕ → ℕ → Type 0) (Usable : ℕ → Type 0) (cost : ℕ → ℕ)
+      (s : Situation) : Type 0 where
     pub sound : Sound m (s .state)
     pub covered : Covered m plan counts (Attains m plan) S wish (s .state) count
     pub within : s .applied + toCome counts cost s ≤ boundIn m plan
@@ -119,7 +120,8 @@ module _ {m : Model} {lent : Lent} {counts : ℕ → Bool} {S : Masks → ℕ �
     pub highest : Highest m (lent .plan) (s .state) counts (goalMasks m (lent .goal)) (count m lent) j
     highest = Moving.sends-highest valid (laws .tables) (kept .sound) sent
 
-    covered-after : Covered m (lent .plan) counts (Attains m (lent .plan)) S (goalMasks m (lent .goal)) (movedBy m s v .state) (count m lent)
+    covered-after : Covered m (lent .plan) counts (Attains m (lent .plan)) S (goalMasks m (lent .goal))
+        (movedBy m s v .state) (count m lent)
     covered-after =
         Stays.covered-stays valid (laws .tables) (laws .safe) (kept .sound) acting moves _ _ (kept .covered)
         highest sent

@@ -19,10 +19,12 @@ module _ (m : Model) (plan : List ℕ) (counts : ℕ → Bool) (state : List ℕ
   live-contradicts live n = true-false (live (n .group) (n .below) (n .concerned)) (n .not-live)
 
   -- the highest group that is not live, or that may be stranded, is one alone
-  not-live-above : {k p q : ℕ} (a : NotLive m plan counts state masks k p) (b : NotLive m plan counts state masks k q) → ¬ (a .group < b .group)
+  not-live-above : {k p q : ℕ} (a : NotLive m plan counts state masks k p) (b : NotLive m plan counts state masks k q)
+      → ¬ (a .group < b .group)
   not-live-above a b l = true-false (a .higher-live (b .group) l (b .below) (b .concerned)) (b .not-live)
 
-  dead-end-above : {k p q : ℕ} (a : DeadEnd m plan counts state masks k p) (b : DeadEnd m plan counts state masks k q) → ¬ (a .group < b .group)
+  dead-end-above : {k p q : ℕ} (a : DeadEnd m plan counts state masks k p) (b : DeadEnd m plan counts state masks k q)
+      → ¬ (a .group < b .group)
   dead-end-above a b l =
       b .stranded (a .higher-none (b .group) l (b .below) (b .is-upstream) .attains-from (b .mode) (b .within) (b .comes-there))
 
@@ -55,10 +57,12 @@ module _ (m : Model) (plan : List ℕ) (counts : ℕ → Bool) (state : List ℕ
   passes-contradicts s (by-18 e live some a) =
       a .stranded (s .no-dead-end (a .group) (a .below) (a .is-upstream) .attains-from (a .mode) (a .within) (a .comes-there))
 
-  refuses-above : {n p i q : ℕ} (a : Uncovered m plan counts state masks n p) (b : Uncovered m plan counts state masks i q) → ¬ (a .group < b .group)
+  refuses-above : {n p i q : ℕ} (a : Uncovered m plan counts state masks n p) (b : Uncovered m plan counts state masks i q)
+      → ¬ (a .group < b .group)
   refuses-above a b l = passes-contradicts (a .higher-pass (b .group) l (b .below) (b .unmet)) (b .because)
 
-  pub uncovered-one : {n p i q : ℕ} → Uncovered m plan counts state masks n p → Uncovered m plan counts state masks i q → (n ≡ i) × (p ≡ q)
+  pub uncovered-one : {n p i q : ℕ} → Uncovered m plan counts state masks n p → Uncovered m plan counts state masks i q
+      → (n ≡ i) × (p ≡ q)
   uncovered-one {n} {p} a b =
       let same : a .group ≡ b .group = omega (arith, refuses-above a b, refuses-above b a) in
       because-one (subst (λ g. Because m plan counts state masks g n p) same (a .because)) (b .because)

@@ -62,7 +62,8 @@ module _ {m : Model} {file plan state : List ℕ} {goal : Masks} {bodies starts 
     pursued-only = left-only (q .kept .placed) (q .leaves) fits
 
     -- the groups upstream of the unmet ones, and both together
-    module _ {above : ℕ} (up : (m : Model) (plan : List ℕ) (counts : ℕ → Bool) → Valid m → wellShaped m plan ≡ true → NamedBy m plan counts named
+    module _ {above : ℕ} (up : (m : Model) (plan : List ℕ) (counts : ℕ → Bool) → Valid m → wellShaped m plan ≡ true
+        → NamedBy m plan counts named
         → UpstreamOfSome m plan counts left above) where
       pub pursued-upper : UpstreamOfSome m plan everyMove left above
       pursued-upper = up m plan everyMove (q .kept .placed .valid) (q .kept .placed .shaped) (q .naming)

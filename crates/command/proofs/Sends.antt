@@ -112,7 +112,8 @@ module _ {m : Model} {plan : List ℕ} {counts : ℕ → Bool} {Usable : ℕ →
       }
 
 module _ {m : Model} {plan : List ℕ} {counts : ℕ → Bool} {Usable : ℕ → Type 0} {longest : ℕ → ℕ} (valid : Valid m)
-    (tables : TableLaws m plan counts Usable longest) {S : Masks → ℕ → ℕ → Type 0} (safe : SafeLaws m plan Usable S) {state : List ℕ} (sound : Sound m state) where
+    (tables : TableLaws m plan counts Usable longest) {S : Masks → ℕ → ℕ → Type 0} (safe : SafeLaws m plan Usable S)
+    {state : List ℕ} (sound : Sound m state) where
   -- the needs of the entry's move are covered
   pub heading-needs-covered : (masks : Masks) (k : ℕ) → Heading m plan Usable state masks k
       → met (groups m plan) masks state k ≡ false → Covered m plan counts (Attains m plan) S masks state (suc k)

@@ -146,7 +146,8 @@ tagless-same =
           let list = same-list m state other alike in
           record {
             next-same = λ live.
-                rw (parses, refusals-same m state other alike plan goal live, fulfil-same m plan state other (same-list m state other alike));
+                let list = same-list m state other alike in
+                rw (parses, refusals-same m state other alike plan goal live, fulfil-same m plan state other list);
             effect-same = λ answer. rw parses (told m state other alike machine sent answer .0);
             modes-after = λ answer i. rw parses (ap (λ ms. getD ms i 0) (told m state other alike machine sent answer .1));
           };

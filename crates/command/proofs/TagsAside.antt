@@ -51,7 +51,8 @@ module _ (m : Model) (plan : List ℕ) (masks : Masks) (state other : List ℕ) 
         (λ t. rw t (ap not (live-same a (concern m plan everyMove state masks k a t))))
         (λ f. rw f)
 
-    faults-same : groupFaults m plan everyMove (deadEnd m plan) state masks k ≡ groupFaults m plan everyMove (deadEnd m plan) other masks k
+    faults-same : groupFaults m plan everyMove (deadEnd m plan) state masks k
+        ≡ groupFaults m plan everyMove (deadEnd m plan) other masks k
     unfolding groupFaults deadEnd
     faults-same = rw (fun-ext hindered-same, same)
 

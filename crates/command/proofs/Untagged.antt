@@ -69,7 +69,8 @@ module _ (m : Model) (valid : Valid m) (plan : List ℕ) (shaped : wellShaped m 
     picked-untagged v picks =
         let r = picked-way picks in
         let there = valid .moves-valid v (r .listed) .present in
-        let live = all-live m plan everyMove state masks (r .top) (clear-group m plan everyMove state masks covered (r .top) (r .below) (r .unmet))
-        (home v) (group-below m valid plan shaped (moveAt m v .machine) there) (r .leads) in
+        let passed = clear-group m plan everyMove state masks covered (r .top) (r .below) (r .unmet) in
+        let live = all-live m plan everyMove state masks (r .top) passed (home v)
+        (group-below m valid plan shaped (moveAt m v .machine) there) (r .leads) in
         live-untagged m plan state (home v) (moveAt m v .machine) live
         (is-member (groupsIn m plan) (home v) (rw groups-length there) refl)

@@ -35,5 +35,6 @@ upstreamIn m plan counts = upstream m (groupsIn m plan) (counted m plan counts)
 
 abbrev pub UpstreamRight : Type 0
 UpstreamRight =
-    (m : Model) (plan : List ℕ) (counts : ℕ → Bool) (k a : ℕ) → Valid m → wellShaped m plan ≡ true → k < groupCount (groupsIn m plan)
+    (m : Model) (plan : List ℕ) (counts : ℕ → Bool) (k a : ℕ) → Valid m → wellShaped m plan ≡ true
+    → k < groupCount (groupsIn m plan)
     → (upstreamIn m plan counts k a ≡ true) ↔ Ancestor m (groupsIn m plan) (counted m plan counts) k a
