@@ -12,6 +12,7 @@ pub mod Distances
 pub mod Entries
 pub mod EntriesSame
 pub mod EntryBytes
+pub mod EntryRoutes
 pub mod GroupLoops
 pub mod GroupPassed
 pub mod GroupSets
@@ -87,7 +88,6 @@ pub mod TargetsNamed
 pub mod Together
 pub mod TurnsLent
 pub mod Usable
-pub mod UsableByEntries
 pub mod UsableUpto
 pub mod WeightLoop
 pub mod WithinModes

@@ -9,7 +9,7 @@ use lib.ListN.{getD}
 use Rattle.sheet.specs.Model.{Model, moveCount, moveAt}
 use Rattle.plan.specs.Groups.{Grouping, groupOf, groupCount, movesOf, namedOutside}
 use Rattle.plan.specs.Modes.{size, liveMode}
-use Rattle.plan.specs.Usable.{meets, leads, endMode}
+use Rattle.plan.specs.Usable.{meets, leads, endMode, joinedBy}
 use Rattle.plan.specs.Reading.{groupsIn, entryAt, boundIn, wellShaped}
 use Rattle.plan.specs.Routes.{usableMoves}
 use Rattle.plan.specs.Table.{entryOf}
@@ -36,7 +36,7 @@ pub record ReadsBack (m : Model) (groups : Grouping) (plan : List ℕ) : Type 0 
   pub shaped : wellShaped m plan ≡ true
   pub entry-read : (k p q : ℕ) → k < groupCount groups → p < size m groups k → q < size m groups k
       → entryAt m plan k p q
-      ≡ entryOf m groups k (usableMoves m groups (allRoutes m groups) k) (getD (allRoutes m groups) k []) p q
+      ≡ entryOf m groups k (usableMoves m groups (joinedBy (allRoutes m groups)) k) (getD (allRoutes m groups) k []) p q
   pub bound-read : boundIn m plan ≡ planBound m groups (allRoutes m groups)
 
 -- L of each group

@@ -12,6 +12,7 @@ use Rattle.plan.specs.Routes.{usableMoves}
 use Rattle.plan.specs.Table.{entryOf}
 use Rattle.plan.specs.Bound.{planBound}
 use Rattle.plan.specs.Bytes.{fourBytes, tableIn, bytesOf, tableLength}
+use Rattle.plan.specs.Usable.{joinedBy}
 use Rattle.plan.specs.Reading.{entryAt, boundIn}
 use Rattle.plan.proofs.Bytes.{length-fourBytes, fourBytes-read}
 use Rattle.plan.proofs.Tables.{length-tableOf, entryIn-tableOf}
@@ -36,11 +37,11 @@ module _ (m : Model) (groups : Grouping) (routes : List Matrix) (n : length grou
 
   pub entry-back : (k p q : ℕ) → k < groupCount groups → p < size m groups k → q < size m groups k
       → entryAt m (bytesOf m groups routes) k p q
-      ≡ entryOf m groups k (usableMoves m groups routes k) (getD routes k []) p q
+      ≡ entryOf m groups k (usableMoves m groups (joinedBy routes) k) (getD routes k []) p q
   unfolding plan-laid tableIn
   entry-back k p q h i j =
       entry-read plan-laid k p q h
-      ∙ entryIn-tableOf m groups k (usableMoves m groups routes k) (getD routes k []) p q i j
+      ∙ entryIn-tableOf m groups k (usableMoves m groups (joinedBy routes) k) (getD routes k []) p q i j
 
   pub bound-back : planBound m groups routes < 4294967296 → boundIn m (bytesOf m groups routes) ≡ planBound m groups routes
   unfolding plan-laid

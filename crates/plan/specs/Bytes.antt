@@ -10,6 +10,7 @@ use Rattle.plan.specs.Groups.{Grouping, groupCount}
 use Rattle.plan.specs.Modes.{size}
 use Rattle.plan.specs.Routes.{usableMoves}
 use Rattle.plan.specs.Table.{tableOf}
+use Rattle.plan.specs.Usable.{joinedBy}
 use Rattle.plan.specs.Bound.{planBound}
 
 -- four bytes, little-endian
@@ -19,7 +20,7 @@ fourBytes n = twoBytes (n % 65536) ++ twoBytes (n / 65536)
 module _ (m : Model) (groups : Grouping) where
   -- the bytes of group k's table, given every group's distances
   unfoldable pub tableIn : List Matrix → ℕ → List ℕ
-  tableIn routes k = tableOf m groups k (usableMoves m groups routes k) (getD routes k [])
+  tableIn routes k = tableOf m groups k (usableMoves m groups (joinedBy routes) k) (getD routes k [])
 
   -- group numbers (16), a table for each group (17), the bound (18), the end (3)
   unfoldable pub bytesOf : List Matrix → List ℕ

@@ -8,5 +8,4 @@ pub mod ModeSets
 pub mod Outline
 pub mod Partition
 pub mod Sizes
-pub mod UsableBy
 pub mod Written

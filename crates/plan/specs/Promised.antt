@@ -13,7 +13,7 @@ use Rattle.sheet.specs.Valid.{Valid}
 use Rattle.sheet.specs.Parse.{Parsed, parse}
 use Rattle.plan.specs.Groups.{Grouping, groupOf, groupCount, groupsOf}
 use Rattle.plan.specs.Modes.{size}
-use Rattle.plan.specs.Usable.{usable}
+use Rattle.plan.specs.Usable.{usable, joinedBy}
 use Rattle.plan.specs.Routes.{routesUpto}
 use Rattle.plan.specs.Bound.{planBound}
 use Rattle.plan.specs.Bytes.{planLength}
@@ -25,7 +25,7 @@ use Rattle.plan.specs.Shape.{Shaped}
 -- What is computed as usable is what is usable.
 abbrev pub UsableRight : Model → Grouping → Type 0
 UsableRight m groups =
-    (v : ℕ) → v < moveCount m → (usable m groups (routesUpto m groups (groupCount groups)) v ≡ true) ↔ Usable m groups v
+    (v : ℕ) → v < moveCount m → (usable m groups (joinedBy (routesUpto m groups (groupCount groups))) v ≡ true) ↔ Usable m groups v
 
 -- the place of 9: the smallest machine of the lowest-numbered group of more than 64 modes
 pub record FirstLarge (m : Model) (groups : Grouping) (place : ℕ) : Type 0 where
