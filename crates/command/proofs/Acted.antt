@@ -16,12 +16,11 @@ use Rattle.sheet.specs.declared.index.Sheet.{Sheet}
 use Rattle.sheet.specs.declared.refusal.Cause.{Cause}
 use Rattle.sheet.specs.declared.refusal.Verdict.{Verdict}
 use Rattle.sheet.specs.declared.refusal.Verdict.the-variants.{Refused}
-use Rattle.sheet.specs.Refusal.{numberOf}
+use Rattle.sheet.specs.Refusal.{numberOf, verdictSays}
 use Rattle.sheet.specs.Record.{byte, bodyAt}
 use Rattle.sheet.specs.Model.{Model, moveAt, moveOf}
 use Rattle.sheet.specs.Kept.Indexed.{Indexes}
 use Rattle.sheet.proofs.Indexed.{indexes-valid, indexes-moves, indexes-body}
-use Rattle.plan.specs.Says.{verdictSays}
 use Rattle.plan.proofs.MoveTurns.{turn-present, turn-move}
 use Rattle.command.specs.State.{withMode, stateFaults}
 use Rattle.command.specs.Apply.{Answers, Applied, Effect, actingMove, stateBy, appliedBy, effectReply, applyReply, stateAfter}

@@ -35,7 +35,6 @@ pub mod Meanings
 pub mod Moving
 pub mod Naming
 pub mod Near
-pub mod NearestLoop
 pub mod OneRefusal
 pub mod Opening
 pub mod Picked
@@ -43,7 +42,6 @@ pub mod Placing
 pub mod PresentLoop
 pub mod Pursuing
 pub mod Refusals
-pub mod RouteLoops
 pub mod Safe
 pub mod Sends
 pub mod Shape

@@ -33,7 +33,8 @@ use Rattle.plan.specs.Kept.Partition.{cappedWeights, Partitioned}
 use Rattle.plan.specs.Kept.ModeSets.{Weighed, Sized, ZeroSets}
 use Rattle.plan.specs.Promised.{SmallGroups}
 use Rattle.plan.specs.Reading.{groupsIn, wellShaped, everyMove}
-use Rattle.plan.specs.Says.{verdictSays, shapeReply, outlineReply}
+use Rattle.sheet.specs.Refusal.{verdictSays}
+use Rattle.plan.specs.Says.{shapeReply, outlineReply}
 use Rattle.plan.specs.Kept.Outline.{Outlined}
 use Rattle.plan.proofs.CappedSizes.{capped-small}
 use Rattle.plan.proofs.Counted.{counted-all}

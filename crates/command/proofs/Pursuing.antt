@@ -18,7 +18,7 @@ use Rattle.sheet.specs.declared.refusal.Verdict.the-variants.{Accepted}
 use Rattle.sheet.specs.Model.{Model}
 use Rattle.sheet.specs.Valid.{Valid}
 use Rattle.plan.specs.Groups.{groupCount}
-use Rattle.plan.specs.Says.{verdictSays}
+use Rattle.sheet.specs.Refusal.{verdictSays}
 use Rattle.plan.specs.Kept.Partition.{MemberSets}
 use Rattle.plan.specs.Reading.{groupsIn, wellShaped, everyMove}
 use Rattle.command.specs.Goal.{Masks}

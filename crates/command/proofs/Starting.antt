@@ -9,18 +9,17 @@ use lib.Seq.{length-take-le, take-at}
 use Rattle.common.specs.Reply.{Reply, given, refused, andThen, outputAfter}
 use Rattle.common.proofs.Reply.{andThen-given, given-not-refused}
 use Rattle.sheet.specs.declared.refusal.Cause.{Cause}
-use Rattle.sheet.specs.Refusal.{numberOf}
+use Rattle.sheet.specs.Refusal.{numberOf, measuredOf}
 use Rattle.sheet.specs.Parse.{Parsed, parse}
 use Rattle.plan.specs.declared.making.Planned.{Planned}
 use Rattle.plan.specs.declared.making.Planned.the-variants.{Written, Refused}
-use Rattle.plan.specs.declared.measure.Length.{Length}
-use Rattle.plan.specs.declared.measure.Length.the-variants.{Bytes, Refused as Unmeasured}
+use Rattle.sheet.specs.declared.refusal.Length.{Length}
+use Rattle.sheet.specs.declared.refusal.Length.the-variants.{Bytes, Refused as Unmeasured}
 use Rattle.plan.specs.Groups.{groupCount, groupsOf}
 use Rattle.plan.specs.Bytes.{tableAt, planLength}
 use Rattle.plan.specs.Planning.{lengthReply, planReply, bufferAfter, scratchAfter}
 use Rattle.plan.specs.Reading.{boundIn}
 use Rattle.plan.specs.Kept.Outline.{boundAt}
-use Rattle.plan.specs.Says.{measuredOf}
 use Rattle.plan.specs.Says.{plannedOf, toldOf}
 use Rattle.plan.proofs.Planned.{planned}
 use Rattle.plan.proofs.Planning.{plan-accepted}

@@ -12,10 +12,10 @@ use Rattle.common.proofs.Clear.{unless-append-clear}
 use Rattle.sheet.specs.declared.refusal.Cause.{Cause}
 use Rattle.sheet.specs.declared.refusal.Verdict.{Verdict}
 use Rattle.sheet.specs.declared.refusal.Verdict.the-variants.{Refused}
-use Rattle.sheet.specs.Refusal.{numberOf}
+use Rattle.sheet.specs.Refusal.{numberOf, verdictSays}
 use Rattle.sheet.specs.Model.{Model}
 use Rattle.sheet.specs.Parse.{parse}
-use Rattle.plan.specs.Says.{verdictSays, shapeReply, outlineReply}
+use Rattle.plan.specs.Says.{shapeReply, outlineReply}
 use Rattle.command.specs.State.{stateFaults}
 use Rattle.command.specs.Goal.{goalFaults}
 use Rattle.command.specs.Goal.{goalMasks}

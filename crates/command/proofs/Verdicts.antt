@@ -11,8 +11,7 @@ use Rattle.common.proofs.Clear.{clear-each, each-clear, unless-append-decides}
 use Rattle.sheet.specs.declared.refusal.Cause.{Cause}
 use Rattle.sheet.specs.declared.refusal.Verdict.{Verdict}
 use Rattle.sheet.specs.declared.refusal.Verdict.the-variants.{Accepted, Refused}
-use Rattle.sheet.specs.Refusal.{numberOf}
-use Rattle.plan.specs.Says.{verdictSays}
+use Rattle.sheet.specs.Refusal.{numberOf, verdictSays}
 
 module _ (fs : List Fault) {v : Verdict} (e : verdictSays v ≡ unless fs (given tt)) where
   pub accepted-clear : v ≡ Accepted → clear fs ≡ true

@@ -29,7 +29,7 @@ ghost use Rattle.sheet.specs.Valid.{Valid};
 ghost use Rattle.plan.specs.Kept.Sizes.{CountsOf};
 ghost use Rattle.plan.specs.Kept.Partition.{MemberSets};
 ghost use Rattle.plan.specs.Reading.{groupsIn};
-ghost use Rattle.plan.specs.Says.{verdictSays};
+ghost use Rattle.sheet.specs.Refusal.{verdictSays};
 ghost use Rattle.command.specs.Goal.{badByte, goalFaults};
 ghost use Rattle.command.specs.Goal.{Masks, goalMasks};
 ghost use Rattle.command.specs.Kept.Question.{Allows, Placed, Kept, GroupsOnly, UnmetSet, AllowedSets};

@@ -6,7 +6,6 @@ pub mod covering;
 pub mod fitting;
 pub mod goal;
 pub mod liveness;
-pub mod lookup;
 pub mod method;
 pub mod promises;
 pub mod query;

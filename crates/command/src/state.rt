@@ -16,7 +16,7 @@ ghost use Rattle.plan.specs.Kept.Sizes.{CountsOf};
 ghost use Rattle.plan.specs.Groups.{groupCount};
 ghost use Rattle.plan.specs.Modes.{modeNumber};
 ghost use Rattle.plan.specs.Kept.ModeSets.{Weighed};
-ghost use Rattle.plan.specs.Says.{verdictSays};
+ghost use Rattle.sheet.specs.Refusal.{verdictSays};
 ghost use Rattle.command.specs.Kept.Question.{machinesIn};
 ghost use Rattle.command.specs.State.{modes, modeOf, tagOf, withMode, badPair, stateFaults};
 

@@ -8,8 +8,8 @@ use native.Mathlib.Numerals.{add-one}
 use borrow.Author.Tests.{lt-ltb, le-ltb}
 use lib.ListN.{length, set, length-append}
 use lib.Seq.{set-split}
-use Rattle.plan.specs.Kept.Written.{written}
-use Rattle.plan.proofs.Overwriting.{written-none, written-more}
+use Rattle.sheet.specs.Kept.Written.{written}
+use Rattle.sheet.proofs.Overwriting.{written-none, written-more}
 use Rattle.decimal.specs.Decimal.{digit, digits, decimal}
 
 -- A call that writes a piece at a place, and gives the place behind it.

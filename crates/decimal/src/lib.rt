@@ -9,7 +9,7 @@ ghost use mathlib.Core.Bool.{true};
 ghost use Prim.Native.Nat.{_+_, _-_, _%_, _≤_, _<_};
 ghost use mathlib.Core.List.{[], _∷_};
 ghost use lib.ListN.{length, getD, drop};
-ghost use Rattle.plan.specs.Kept.Written.{written};
+ghost use Rattle.sheet.specs.Kept.Written.{written};
 ghost use Rattle.decimal.specs.Decimal.{digit, digits, decimal, isDigit};
 ghost use Rattle.decimal.specs.Decimal.{startsWith, readNumber};
 ghost use Rattle.decimal.specs.Kept.Digits.{Starts};

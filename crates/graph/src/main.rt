@@ -1,9 +1,9 @@
 // Prints the picture of the sheet in sheet.bin for Graphviz, or the sheet's refusal.
-use plan::measure::Length;
 use printer::load;
 use printer::refusal_in_words;
 use printer::text;
 use printer::within;
+use sheet::refusal::Length;
 
 // The picture of the sheet that a file is. No text is longer than the buffer.
 fn print_graph(file: &[u8]) {

@@ -19,7 +19,7 @@ use Rattle.sheet.specs.Record.{byte, part}
 use Rattle.sheet.specs.Model.{Model, machineCount}
 use Rattle.sheet.proofs.Records.{part-length}
 use Rattle.plan.specs.Kept.Sizes.{CountsOf}
-use Rattle.plan.specs.Says.{verdictSays}
+use Rattle.sheet.specs.Refusal.{verdictSays}
 use Rattle.command.specs.Goal.{goalFaults}
 use Rattle.command.proofs.Verdicts.{accepted-clear, refused-first}
 use Rattle.joining.specs.Join.{Goals, mostGoals, goalsIn, longestGoal, eachFaults}

@@ -15,7 +15,7 @@ use Rattle.common.proofs.Members.{upTo-below, length-map-upTo, getD-map-upTo}
 use Rattle.common.proofs.Reply.{first-refuses, unless-clear}
 use Rattle.common.proofs.Search.{find-cong, first-some, first-place, first-missing}
 use Rattle.common.proofs.Sums.{maximum-is-least}
-use Rattle.plan.specs.Kept.Written.{written}
+use Rattle.sheet.specs.Kept.Written.{written}
 use Rattle.joining.specs.Kept.Lent.{Splits, SplitsShort}
 use Rattle.joining.specs.Join.{Goals, sharedModes, longestGoal, joined, nothingShared, noRoom, sharedFaults}
 

@@ -11,7 +11,7 @@ ghost use Rattle.common.specs.Reply.{given, unless};
 ghost use Rattle.sheet.specs.Record.{byte, part};
 ghost use Rattle.sheet.specs.Model.{Model, machineCount};
 ghost use Rattle.plan.specs.Kept.Sizes.{CountsOf};
-ghost use Rattle.plan.specs.Says.{verdictSays};
+ghost use Rattle.sheet.specs.Refusal.{verdictSays};
 ghost use Rattle.joining.specs.Join.{Goals, mostGoals, goalsIn, sharedModes, longestGoal, eachFaults};
 ghost use Rattle.joining.specs.Kept.Lent.{isGiven, Splits, SplitsShort, narrowed};
 

@@ -13,7 +13,7 @@ use Rattle.sheet.specs.declared.index.Machine.{Machine}
 use Rattle.sheet.specs.declared.index.Move.{Move}
 use Rattle.sheet.specs.declared.refusal.Cause.{Cause}
 use Rattle.sheet.specs.declared.refusal.Verdict.the-variants.{Accepted, Refused as Turned}
-use Rattle.sheet.specs.Refusal.{numberOf}
+use Rattle.sheet.specs.Refusal.{numberOf, measuredOf}
 use Rattle.sheet.specs.Model.{machineCount, moveCount}
 use Rattle.sheet.specs.Parse.{Parsed, nothing, parse}
 use Rattle.sheet.specs.Index.{readingOf, indexReply, sheetOf}
@@ -21,13 +21,12 @@ use Rattle.sheet.proofs.Answers.{machines-in, moves-in}
 use Rattle.sheet.proofs.Indexed.{indexes-machines, indexes-moves, accepted-indexed, refused-parse}
 use Rattle.sheet.proofs.Parsed.{parse-valid}
 use Rattle.sheet.proofs.Place.{Near, refusal-near}
-use Rattle.plan.specs.declared.measure.Length.{Length}
-use Rattle.plan.specs.declared.measure.Length.the-variants.{Refused}
+use Rattle.sheet.specs.declared.refusal.Length.{Length}
+use Rattle.sheet.specs.declared.refusal.Length.the-variants.{Refused}
 use Rattle.plan.specs.declared.making.Planned.{Planned}
 use Rattle.plan.specs.declared.making.Planned.the-variants.{Written, Refused as Unplanned}
 use Rattle.plan.specs.Planning.{lengthReply, planReply}
 use Rattle.plan.specs.Says.{plannedOf, toldOf}
-use Rattle.plan.specs.Says.{measuredOf}
 use Rattle.plan.proofs.SheetLength.{length-near, plan-near}
 use Rattle.command.specs.declared.method.Advice.{Advice}
 use Rattle.command.specs.declared.method.Advice.the-variants.{Done, Send, Refused as Unadvised}

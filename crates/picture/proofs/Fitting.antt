@@ -8,7 +8,7 @@ use native.Mathlib.Nat.{zero-add}
 use lib.ListN.{length, drop, length-append}
 use Rattle.common.specs.Reply.{given, refused, lengthOf, outputAfter}
 use Rattle.decimal.proofs.Putting.{Puts, puts-then}
-use Rattle.plan.specs.Kept.Written.{written}
+use Rattle.sheet.specs.Kept.Written.{written}
 use Rattle.picture.specs.Picture.{pictureBytes}
 use Rattle.picture.specs.Text.{firstLine, lastLine}
 use Rattle.picture.specs.Graph.{fitted}

@@ -1,12 +1,12 @@
 // The lines of a picture's text, and its edges in bytes, each written at a place of the lent buffer.
-use plan::writing::put_bytes;
+use sheet::writing::put_bytes;
 ghost use mathlib.Core.Path.{_≡_};
 ghost use mathlib.Core.List.{_∷_, []};
 ghost use Prim.Native.Nat.{_+_, _≤_, _<_};
 ghost use lib.ListN.{length};
 ghost use Rattle.decimal.specs.Decimal.{decimal};
 ghost use Rattle.sets.specs.Kept.Sets.{elements};
-ghost use Rattle.plan.specs.Kept.Written.{written};
+ghost use Rattle.sheet.specs.Kept.Written.{written};
 ghost use Rattle.picture.specs.Picture.{edge};
 ghost use Rattle.picture.specs.Text.{lineStart, labels, edgeLine};
 ghost use Rattle.picture.specs.Kept.Rows.{nodeRow, edgeRow, pairRow};

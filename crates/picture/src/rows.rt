@@ -8,7 +8,7 @@ use crate::lines::put_pairs;
 ghost use mathlib.Core.Path.{_≡_};
 ghost use Prim.Native.Nat.{_+_, _≤_};
 ghost use lib.ListN.{length};
-ghost use Rattle.plan.specs.Kept.Written.{written};
+ghost use Rattle.sheet.specs.Kept.Written.{written};
 ghost use Rattle.picture.specs.Kept.Rows.{nodeRow, edgeRow, pairRow, rowsOf};
 
 // The length of the nodes, by the machines of each.

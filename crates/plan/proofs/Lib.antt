@@ -41,6 +41,7 @@ pub mod Named
 pub mod NamedAny
 pub mod NamedGroups
 pub mod NamedLoop
+pub mod NearestLoop
 pub mod NeedLoop
 pub mod NeedSets
 pub mod Needs
@@ -48,7 +49,6 @@ pub mod NeedsNamed
 pub mod Numbering
 pub mod NumbersUsed
 pub mod OneDigit
-pub mod Overwriting
 pub mod OwnLaws
 pub mod PassLoop
 pub mod PassTurns
@@ -67,6 +67,7 @@ pub mod RecordTests
 pub mod Replies
 pub mod RoughBound
 pub mod Rounds
+pub mod RouteLoops
 pub mod RouteSets
 pub mod Routes
 pub mod RowParts

@@ -32,7 +32,8 @@ use Rattle.plan.specs.Kept.Sizes.{firstLarge}
 use Rattle.plan.specs.Reading.{groupsIn, hasRecord, gapless, needsFirst, fitsRecords, wellShaped}
 use Rattle.plan.specs.Kept.Partition.{Numbers, Partitioned}
 use Rattle.plan.specs.Kept.Outline.{lowerNamed, StartsAt, tablesFit, endsAt}
-use Rattle.plan.specs.Says.{verdictSays, outlineReply}
+use Rattle.sheet.specs.Refusal.{verdictSays}
+use Rattle.plan.specs.Says.{outlineReply}
 use Rattle.plan.specs.Kept.Outline.{Outlined, ShapeJudged}
 use Rattle.plan.proofs.Named.{group-below-count}
 use Rattle.plan.proofs.Replies.{none-large}

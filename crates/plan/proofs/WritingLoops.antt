@@ -1,55 +1,25 @@
--- What `writing` stores, one byte after the other: two bytes, two times two bytes, a copy, and zeros.
+-- What `writing` stores of a plan: the bound, the first record and the last two, and zeros.
 -- Assumes nothing.
 use Prim.Native.Nat.{ℕ, _+_, _/_, _%_, _≤_, _<_, zero-le}
 use mathlib.Core.Path.{_≡_, refl, ap, _∙_}
-use mathlib.Core.List.{List, [], _∷_, _++_, append-assoc, append-nil}
-use native.Mathlib.Nat.{le-antisymm}
-use native.Mathlib.Numerals.{add-one}
+use mathlib.Core.List.{List, [], _++_, append-nil}
 use native.Mathlib.Omega.{arith}
 use borrow.Author.Fill.{fill-none, fill-more}
-use lib.ListN.{length, getD, set, take, drop, replicate, length-append, length-set}
-use lib.Seq.{take-length, drop-length, sets-eq, paste, paste-zero, paste-suc}
+use lib.ListN.{length, set, drop, replicate, length-set}
+use lib.Seq.{drop-length}
 use Rattle.sheet.specs.Record.{twoBytes, recordOf}
-use Rattle.sheet.proofs.Written.{length-twoBytes, length-recordOf}
+use Rattle.sheet.specs.Kept.Written.{written}
+use Rattle.sheet.proofs.Written.{length-recordOf}
+use Rattle.sheet.proofs.Overwriting.{written-none, written-more, length-written}
+use Rattle.sheet.proofs.WritingBytes.{header-written, record-written}
 use Rattle.plan.specs.Bytes.{fourBytes}
-use Rattle.plan.specs.Kept.Written.{written}
 use Rattle.plan.proofs.Bytes.{length-fourBytes}
-use Rattle.plan.proofs.Overwriting.{written-none, written-more, length-written}
-
-pub two-written : (at n : ℕ) (s : List ℕ) → at + 2 ≤ length s
-    → set (set s at (n % 256)) (at + 1) (n / 256 % 256) ≡ written at (twoBytes n) s
-unfolding written twoBytes
-two-written at n s h =
-    rw (add-one at) (sets-eq (n % 256 ∷ n / 256 % 256 ∷ []) s at h ∙ append-assoc (take at s) _ _)
-
-module _ (s p q : List ℕ) (at a : ℕ) (first : p ≡ written at (twoBytes a) s) (room : at + 4 ≤ length s) where
-  pub header-written : {b : ℕ} (kind : ℕ) → b ≡ kind → q ≡ written (at + 2) (twoBytes b) p
-      → q ≡ written at (twoBytes a ++ twoBytes kind) s
-  header-written kind same second =
-      second ∙ rw (first, same)
-      (written-more at (twoBytes a) s (omega arith) (twoBytes kind) (omega (arith, length-twoBytes a)))
 
 pub bound-written : (s p q : List ℕ) (at bound : ℕ) → p ≡ written at (twoBytes (bound % 65536)) s → at + 4 ≤ length s
     → q ≡ written (at + 2) (twoBytes (bound / 65536)) p → q ≡ written at (fourBytes bound) s
 unfolding fourBytes
 bound-written s p q at bound first room second =
     header-written s p q at (bound % 65536) first room (bound / 65536) refl second
-
--- Records
-
-pub record-written : (s p q body : List ℕ) (at kind next : ℕ)
-    → p ≡ written at (twoBytes (length body) ++ twoBytes kind) s → q ≡ written next body p → next ≡ at + 4 → at ≤ length s → q ≡ written at (recordOf kind body) s
-unfolding recordOf
-record-written s p q body at kind next first second e room =
-    let header = twoBytes (length body) ++ twoBytes kind in
-    let four : length header ≡ 4
-    = omega (
-      arith,
-      length-append (twoBytes (length body)) (twoBytes kind),
-      length-twoBytes (length body),
-      length-twoBytes kind,
-    ) in
-    second ∙ rw first (written-more at header s room body (omega arith))
 
 pub start-written : (s p q numbers : List ℕ) → p ≡ written 0 (twoBytes (length numbers) ++ twoBytes 16) s
     → q ≡ written 4 numbers p → q ≡ written 0 (recordOf 16 numbers) s
@@ -67,33 +37,6 @@ end-written s p q t at bound first second third room =
     record-written q t t [] (at + 8) 3 (at + 12) third (written-none (at + 12) t) (omega arith) (omega arith)
     ∙ rw w18
     (written-more at (recordOf 18 bytes) s (omega arith) (recordOf 3 []) (omega (arith, length-recordOf 18 bytes)))
-
--- The first i of some numbers, copied to a place
-
-pub record CopiedTo (s : List ℕ) (at : ℕ) (numbers : List ℕ) (i : ℕ) (now : List ℕ) : Type 0 where
-  pub inside : i ≤ length numbers
-  pub size : length now ≡ length s
-  pub copied : now ≡ paste s at numbers i
-
-module _ {s numbers : List ℕ} {at : ℕ} (room : at + length numbers ≤ length s) where
-  pub copied-to-none : CopiedTo s at numbers 0 s
-  copied-to-none = record { inside = zero-le; size = refl; copied = paste-zero s at numbers }
-
-  pub copied-to-next : {i : ℕ} {now : List ℕ} → CopiedTo s at numbers i now → i < length numbers
-      → CopiedTo s at numbers (i + 1) (set now (at + i) (getD numbers i 0))
-  copied-to-next {i} {now} c l =
-      record {
-        inside = omega arith;
-        size = length-set now _ _ ∙ c .size;
-        copied = rw (c .copied, add-one) (paste-suc s at numbers i 0 (omega arith) l);
-      }
-
-  pub copied-to-end : {i : ℕ} {now : List ℕ} → CopiedTo s at numbers i now → length numbers ≤ i
-      → now ≡ written at numbers s
-  unfolding written
-  copied-to-end {i} c l =
-      let e : i ≡ length numbers = le-antisymm (c .inside) l in
-      c .copied ∙ rw (e, take-length numbers) (append-assoc (take at s) numbers _)
 
 -- The first i bytes cleared
 

@@ -2,10 +2,10 @@ pub mod CostSets
 pub mod Judged
 pub mod Linked
 pub mod Linking
+pub mod Lookup
 pub mod MachineSets
 pub mod Making
 pub mod ModeSets
 pub mod Outline
 pub mod Partition
 pub mod Sizes
-pub mod Written

@@ -3,21 +3,12 @@ use Prim.Native.Nat.{ℕ}
 use mathlib.Core.List.{List, [], _∷_}
 use mathlib.Core.Bool.{not}
 use Rattle.common.specs.Reply.{Reply, given, refused, fault, unless, andThen}
-use Rattle.sheet.specs.declared.refusal.Verdict.{Verdict}
-use Rattle.sheet.specs.declared.refusal.Verdict.the-variants.{Accepted, Refused as TurnedDown}
 use Rattle.sheet.specs.Refusal.{numberOf}
 use Rattle.sheet.specs.Model.{Model}
 use Rattle.sheet.specs.Parse.{parse}
-use Rattle.plan.specs.declared.measure.Length.{Length}
-use Rattle.plan.specs.declared.measure.Length.the-variants.{Bytes, Refused as Unmeasured}
 use Rattle.plan.specs.declared.making.Planned.{Planned}
 use Rattle.plan.specs.declared.making.Planned.the-variants.{Written, Refused as Unplanned}
 use Rattle.plan.specs.Reading.{wellShaped}
-
--- the plan's length, and any output's: so many bytes, or the refusal
-abbrev pub measuredOf : Length → Reply ℕ
-measuredOf (Bytes n) = given n
-measuredOf (Unmeasured cause place) = refused (numberOf cause) place
 
 -- planning: a plan was written, or the refusal
 abbrev pub plannedOf : Planned → Reply (Unit {0})
@@ -28,11 +19,6 @@ plannedOf (Unplanned cause place) = refused (numberOf cause) place
 abbrev pub toldOf : Reply (List ℕ) → Reply (Unit {0})
 toldOf (given plan) = given tt
 toldOf (refused number place) = refused number place
-
--- what a verdict says in document 01's terms
-abbrev pub verdictSays : Verdict → Reply Unit
-verdictSays Accepted = given tt
-verdictSays (TurnedDown cause place) = refused (numberOf cause) place
 
 -- the reply of the shape alone (15), and with the sheet's tests before it (1 to 8)
 abbrev pub shapeReply : Model → List ℕ → Reply Unit

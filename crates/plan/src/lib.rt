@@ -2,6 +2,7 @@
 pub mod bounding;
 pub mod grouping;
 pub mod judging;
+pub mod lookup;
 pub mod making;
 pub mod measure;
 pub mod opening;

@@ -7,6 +7,7 @@ use crate::sizing::smallest;
 use sheet::index::Sheet;
 use sheet::record::wide;
 use sheet::refusal::Cause;
+use sheet::refusal::Length;
 use sheet::refusal::Verdict;
 ghost use mathlib.Core.Path.{_≡_};
 ghost use Prim.Native.Nat.{_≤_};
@@ -16,7 +17,7 @@ ghost use Rattle.sheet.specs.Kept.Indexed.{Indexed, Indexes};
 ghost use Rattle.plan.specs.Groups.{groupsOf};
 ghost use Rattle.plan.specs.Planning.{lengthReply};
 ghost use Rattle.plan.specs.Kept.Sizes.{SmallNumbers, CountsOf, firstLarge, entriesOf};
-ghost use Rattle.plan.specs.Says.{measuredOf};
+ghost use Rattle.sheet.specs.Refusal.{measuredOf};
 ghost use Rattle.plan.specs.Kept.Making.{lengthWith};
 
 // A plan.
@@ -28,13 +29,6 @@ impl Plan {
 
     // The bound at most.
     pub const BOUND: u32 = 65535;
-}
-
-// The reply of the plan's length.
-pub enum Length {
-    Bytes(usize),
-    // The cause and its place.
-    Refused(Cause, usize),
 }
 
 // Of the first groups, the lowest that has too many modes, or their number.

@@ -16,9 +16,9 @@ ghost use Rattle.sheet.specs.Model.{Model};
 ghost use Rattle.sheet.specs.Parse.{Parsed, parse};
 ghost use Rattle.sheet.specs.Index.{indexOf};
 ghost use Rattle.sheet.specs.Kept.Indexed.{Indexed, Indexes};
-ghost use Rattle.sheet.specs.Refusal.{numberOf};
+ghost use Rattle.sheet.specs.Refusal.{numberOf, verdictSays};
 ghost use Rattle.plan.specs.Reading.{wellShaped};
-ghost use Rattle.plan.specs.Says.{verdictSays, outlineReply};
+ghost use Rattle.plan.specs.Says.{outlineReply};
 ghost use Rattle.plan.specs.Kept.Outline.{Outlined, ShapeJudged};
 
 // What is kept of a sheet and of a plan for it: the verdict of 1 to 8 and of the shape (15), and where all of it passes,

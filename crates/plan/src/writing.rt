@@ -1,42 +1,14 @@
 // Writing a plan's bytes into the buffer that is lent for them.
-use sheet::record::wide;
+use sheet::writing::put_bytes;
+use sheet::writing::put_header;
+use sheet::writing::put_two;
 ghost use mathlib.Core.Path.{_≡_};
 ghost use mathlib.Core.List.{[], _++_};
 ghost use Prim.Native.Nat.{_+_, _≤_};
 ghost use lib.ListN.{length, replicate};
-ghost use Rattle.sheet.specs.Record.{twoBytes, recordOf};
+ghost use Rattle.sheet.specs.Record.{recordOf};
 ghost use Rattle.plan.specs.Bytes.{fourBytes};
-ghost use Rattle.plan.specs.Kept.Written.{written};
-
-// Writes a number at a place, two bytes.
-fn put_two(plan: &mut [u8], at: usize, n: usize)
-    requires { ⌜ at + 2 ≤ length (now plan) ⌝ }
-    ensures { λ _. ⌜ now (plan .exit) ≡ written at (twoBytes n) (now (plan .entry)) ⌝ }
-{
-    plan[at] = (n % 256) as u8;
-    plan[at + 1] = (n / 256 % 256) as u8;
-}
-
-// Writes a record's header at a place: the length of its body and its kind.
-pub fn put_header(plan: &mut [u8], at: usize, len: usize, kind: u8)
-    requires { ⌜ at + 4 ≤ length (now plan) ⌝ }
-    ensures { λ _. ⌜ now (plan .exit) ≡ written at (twoBytes len ++ twoBytes kind) (now (plan .entry)) ⌝ }
-{
-    put_two(plan, at, len);
-    put_two(plan, at + 2, wide(kind));
-}
-
-// Writes bytes at a place.
-pub fn put_bytes(buffer: &mut [u8], at: usize, bytes: &[u8])
-    requires { ⌜ at + length (now bytes) ≤ length (now buffer) ⌝ }
-    ensures { λ _. ⌜ now (buffer .exit) ≡ written at (now (bytes .entry)) (now (buffer .entry)) ⌝ }
-{
-    let mut i: usize = 0;
-    while i < bytes.len() {
-        buffer[at + i] = bytes[i];
-        i += 1;
-    }
-}
+ghost use Rattle.sheet.specs.Kept.Written.{written};
 
 // Writes the bound at a place, four bytes.
 pub fn put_bound(plan: &mut [u8], at: usize, bound: u32)

@@ -18,6 +18,7 @@ pub mod Judging
 pub mod Keyed
 pub mod Keys
 pub mod Modes
+pub mod Overwriting
 pub mod Parsed
 pub mod Passes
 pub mod Place
@@ -32,4 +33,5 @@ pub mod Steps
 pub mod Stops
 pub mod Turns
 pub mod Valid
+pub mod WritingBytes
 pub mod Written

@@ -1,3 +1,4 @@
 pub mod Held
 pub mod Indexed
 pub mod Sent
+pub mod Written

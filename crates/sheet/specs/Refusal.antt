@@ -1,5 +1,10 @@
--- Document 01's number for each cause of the table "Why a call is turned down".
+-- Document 01's number for each cause of the table "Why a call is turned down"; and what the code's answers say.
 use Prim.Native.Nat.{ℕ}
+use Rattle.common.specs.Reply.{Reply, given, refused}
+use Rattle.sheet.specs.declared.refusal.Verdict.{Verdict}
+use Rattle.sheet.specs.declared.refusal.Verdict.the-variants.{Accepted, Refused as TurnedDown}
+use Rattle.sheet.specs.declared.refusal.Length.{Length}
+use Rattle.sheet.specs.declared.refusal.Length.the-variants.{Bytes, Refused as Unmeasured}
 use Rattle.sheet.specs.declared.refusal.Cause.{Cause}
 use Rattle.sheet.specs.declared.refusal.Cause.the-variants.{
   CutShort,
@@ -45,3 +50,13 @@ numberOf NoRoute = 17
 numberOf DeadEnd = 18
 numberOf NoSharedMode = 19
 numberOf NotAPicture = 20
+
+-- a test of lent bytes: they pass, or the refusal
+abbrev pub verdictSays : Verdict → Reply Unit
+verdictSays Accepted = given tt
+verdictSays (TurnedDown cause place) = refused (numberOf cause) place
+
+-- a plan's length, and any output's: so many bytes, or the refusal
+abbrev pub measuredOf : Length → Reply ℕ
+measuredOf (Bytes n) = given n
+measuredOf (Unmeasured cause place) = refused (numberOf cause) place

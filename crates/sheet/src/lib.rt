@@ -8,3 +8,4 @@ pub mod record;
 pub mod refusal;
 pub mod scan;
 mod sent;
+pub mod writing;

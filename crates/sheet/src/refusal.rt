@@ -37,6 +37,13 @@ pub enum Verdict {
     Refused(Cause, usize),
 }
 
+// The reply of a call that tells a number of bytes.
+pub enum Length {
+    Bytes(usize),
+    // The cause and its place.
+    Refused(Cause, usize),
+}
+
 // The number of a cause in document 01.
 pub fn number(cause: Cause) -> u8
     ensures { λ r. ⌜ r ≡ numberOf cause ⌝ }

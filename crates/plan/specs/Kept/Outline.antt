@@ -15,7 +15,8 @@ use Rattle.plan.specs.declared.opening.Outline.{Outline}
 use Rattle.plan.specs.Groups.{groupCount}
 use Rattle.plan.specs.Bytes.{tableAt}
 use Rattle.plan.specs.Reading.{groupsIn, hasRecord, wellShaped}
-use Rattle.plan.specs.Says.{verdictSays, shapeReply}
+use Rattle.sheet.specs.Refusal.{verdictSays}
+use Rattle.plan.specs.Says.{shapeReply}
 use Rattle.plan.specs.Kept.Partition.{Partitioned}
 
 -- s holds the numbers below 64 that occur

@@ -4,7 +4,7 @@ use borrow.Author.Tests.{not-true, not-false}
 use Rattle.common.specs.Reply.{lengthOf, outputAfter}
 use Rattle.sheet.specs.Model.{Model, machineCount}
 use Rattle.plan.specs.Kept.Sizes.{CountsOf}
-use Rattle.plan.specs.Says.{verdictSays}
+use Rattle.sheet.specs.Refusal.{verdictSays}
 use Rattle.joining.specs.Join.{Goals}
 use Rattle.joining.specs.Kept.Lent.{Splits}
 use Rattle.joining.proofs.Sharing.{refusal-leaves}

@@ -1,7 +1,7 @@
 use borrow.Author.Needs.{needs}
-use Rattle.plan.proofs.WritingLoops.{header-written}
-use Rattle.plan.proofs.writing.put_header.Statement.{statement}
-use Rattle.plan.proofs.writing.put_header.Tie as tie
+use Rattle.sheet.proofs.WritingBytes.{header-written}
+use Rattle.sheet.proofs.writing.put_header.Statement.{statement}
+use Rattle.sheet.proofs.writing.put_header.Tie as tie
 
 put-two-requires : tie.Need-put-two-requires
 put-two-requires c κs = search needs

@@ -1,9 +1,9 @@
 use Prim.Native.Nat.{_-_}
 use borrow.Author.Needs.{needs}
 use lib.ListN.{length}
-use Rattle.plan.proofs.WritingLoops.{CopiedTo, copied-to-none, copied-to-next, copied-to-end}
-use Rattle.plan.proofs.writing.put_bytes.Statement.{statement}
-use Rattle.plan.proofs.writing.put_bytes.Tie as tie
+use Rattle.sheet.proofs.WritingBytes.{CopiedTo, copied-to-none, copied-to-next, copied-to-end}
+use Rattle.sheet.proofs.writing.put_bytes.Statement.{statement}
+use Rattle.sheet.proofs.writing.put_bytes.Tie as tie
 
 abbrev Inv-loop : tie.InvT-loop
 Inv-loop buffer₀ at bytes i₀ buffer i = CopiedTo buffer₀ at bytes i buffer

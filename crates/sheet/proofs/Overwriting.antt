@@ -7,7 +7,7 @@ use mathlib.Core.List.{List, [], _++_, append-assoc}
 use native.Mathlib.Omega.{arith}
 use lib.ListN.{length, take, drop, length-append, length-drop, take-append-drop}
 use lib.Seq.{length-take-le, take-at, drop-at, drop-drop}
-use Rattle.plan.specs.Kept.Written.{written}
+use Rattle.sheet.specs.Kept.Written.{written}
 
 pub written-none : (at : ℕ) (s : List ℕ) → s ≡ written at [] s
 unfolding written
