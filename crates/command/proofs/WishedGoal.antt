@@ -36,9 +36,13 @@ below-fits n = omega (arith, pow-pos n)
 pub below-byte : {n w r : ℕ} → n ≤ 8 → w ≡ n → r ≡ below w → r < 256
 below-byte {n} h e f = rw (f, e) (omega (arith, below-fits n, pow-mono h))
 
-pub wished-past : (goal : List ℕ) {i n w r : ℕ} → length goal ≤ i → w ≡ n → r ≡ below w
-    → r ≡ cond (ltb i (length goal)) (byte goal i) (below n)
-wished-past goal h e f = f ∙ ap below e ∙ sym (cond-false _ _ (le-ltb _ _ h))
+module _ (goal : List ℕ) {at i : ℕ} (ei : at ≡ i) where
+  pub wished-inside : (n : ℕ) → at < length goal → getD goal at 0 ≡ cond (ltb i (length goal)) (byte goal i) (below n)
+  wished-inside n h = rw (← ei) (sym (cond-true _ _ (lt-ltb _ _ h)))
+
+  pub wished-past : {n w r : ℕ} → length goal ≤ at → w ≡ n → r ≡ below w
+      → r ≡ cond (ltb i (length goal)) (byte goal i) (below n)
+  wished-past h e f = rw (← ei) (f ∙ ap below e ∙ sym (cond-false _ _ (le-ltb _ _ h)))
 
 module _ (goal modes : List ℕ) where
   abbrev mask : ℕ → ℕ

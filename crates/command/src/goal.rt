@@ -66,11 +66,13 @@ pub fn check(goal: &[u8], modes: &[u8], n: usize) -> Verdict
     Verdict::Accepted
 }
 
-// What a goal allows machine i of so many modes: any of them past the goal's end.
-fn mask_of(goal: &[u8], i: usize, modes: u8) -> u8
+// What a goal allows a machine of so many modes: any of them past the goal's end.
+fn mask_of(goal: &[u8], m: Machine, modes: u8) -> u8
     requires { ⌜ modes ≤ 8 ⌝ }
-    ensures { λ r. ⌜ r ≡ cond (ltb i (length (now (goal .entry)))) (byte (now (goal .entry)) i) (below modes) ⌝ }
+    ensures { λ r. ⌜ r ≡ cond (ltb (m .0) (length (now (goal .entry)))) (byte (now (goal .entry)) (m .0))
+        (below modes) ⌝ }
 {
+    let i = wide(m.0);
     if i < goal.len() {
         return goal[i];
     }
@@ -84,9 +86,10 @@ pub fn wished(goal: &[u8], modes: &[u8], n: usize) -> [u8; Sheet::MACHINES]
         → clear (goalFaults m (now (goal .entry))) ≡ true → Allows m (goalMasks m (now (goal .entry))) r) ⌝ }
 {
     let mut r = [0u8; Sheet::MACHINES];
-    let mut i: usize = 0;
-    while i < n {
-        r[i] = mask_of(goal, i, modes[i]);
+    let mut i: u8 = 0;
+    while wide(i) < n {
+        let at = wide(i);
+        r[at] = mask_of(goal, Machine(i), modes[at]);
         i += 1;
     }
     r
@@ -99,10 +102,12 @@ pub fn unmet(masks: &[u8], state: &[u8], numbers: &[u8]) -> u64
         → Allows m goal (now (masks .entry)) → UnmetSet m plan (now (state .entry)) goal r) ⌝ }
 {
     let mut r: u64 = 0;
-    let mut i: usize = 0;
-    while i < numbers.len() {
-        let k = group_of(numbers, Machine(i as u8));
-        r = sets::put_if(r, wide(k.0), !has_mode(masks[i], mode_at(state, i)));
+    let mut i: u8 = 0;
+    while wide(i) < numbers.len() {
+        let m = Machine(i);
+        let k = group_of(numbers, m);
+        let at = wide(i);
+        r = sets::put_if(r, wide(k.0), !has_mode(masks[at], mode_at(state, m)));
         i += 1;
     }
     r

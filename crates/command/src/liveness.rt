@@ -19,12 +19,14 @@ pub fn failed(state: &[u8], live: &[u8], numbers: &[u8]) -> u64
         → now (live .entry) ≡ pad 32 (m .live) → FailedSet m plan (now (state .entry)) r) ⌝ }
 {
     let mut r: u64 = 0;
-    let mut i: usize = 0;
-    while i < numbers.len() {
-        let k = group_of(numbers, Machine(i as u8));
-        let at = wide(k.0);
-        r = sets::put_if(r, at, !has_mode(live[i], mode_at(state, i)));
-        r = sets::put_if(r, at, tag_at(state, i) != 0);
+    let mut i: u8 = 0;
+    while wide(i) < numbers.len() {
+        let m = Machine(i);
+        let group = group_of(numbers, m);
+        let k = wide(group.0);
+        let at = wide(i);
+        r = sets::put_if(r, k, !has_mode(live[at], mode_at(state, m)));
+        r = sets::put_if(r, k, tag_at(state, m) != 0);
         i += 1;
     }
     r

@@ -66,7 +66,7 @@ pub fn prepare(
         numbers(facts, state),
         weights(facts),
         zeros,
-        group.0,
+        group,
         sets::first(size_of(facts, group)),
     );
     fulfil(

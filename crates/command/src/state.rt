@@ -1,4 +1,5 @@
 // The lent state: a mode and a tag for each machine (13), and the mode that each group is in.
+use plan::sizing::group_of;
 use sheet::index::Machine;
 use sheet::index::Sheet;
 use sheet::record::byte_at;
@@ -30,20 +31,20 @@ pub fn machines_in(state: &[u8]) -> usize
     state.len() / 2
 }
 
-// The mode of machine i, of those that a state is for. This function and the next three alone read a state's bytes.
-pub fn mode_at(state: &[u8], i: usize) -> u8
-    requires { ⌜ 2 * i < length (now state) ⌝ }
-    ensures { λ r. ⌜ r ≡ modeOf (now (state .entry)) i ⌝ }
+// The mode of a machine, of those that a state is for. This function and the next three alone read a state's bytes.
+pub fn mode_at(state: &[u8], m: Machine) -> u8
+    requires { ⌜ 2 * m .0 < length (now state) ⌝ }
+    ensures { λ r. ⌜ r ≡ modeOf (now (state .entry)) (m .0) ⌝ }
 {
-    state[2 * i]
+    state[2 * wide(m.0)]
 }
 
 // Its tag: 1 if nobody may move it, else 0.
-pub fn tag_at(state: &[u8], i: usize) -> u8
-    requires { ⌜ 2 * i + 1 < length (now state) ⌝ }
-    ensures { λ r. ⌜ r ≡ tagOf (now (state .entry)) i ⌝ }
+pub fn tag_at(state: &[u8], m: Machine) -> u8
+    requires { ⌜ 2 * m .0 + 1 < length (now state) ⌝ }
+    ensures { λ r. ⌜ r ≡ tagOf (now (state .entry)) (m .0) ⌝ }
 {
-    state[2 * i + 1]
+    state[2 * wide(m.0) + 1]
 }
 
 // The mode of any machine, 0 where the state is too short to have it.
@@ -75,10 +76,12 @@ fn first_bad(state: &[u8], modes: &[u8], n: usize) -> usize
     ensures { λ r. ⌜ ((m : Model) → CountsOf m (now (modes .entry))
         → r ≡ find (badPair m (now (state .entry))) (upTo n) n) ⌝ }
 {
-    let mut i: usize = 0;
-    while i < n {
-        if modes[i] <= mode_at(state, i) || 2 <= tag_at(state, i) {
-            return i;
+    let mut i: u8 = 0;
+    while wide(i) < n {
+        let m = Machine(i);
+        let at = wide(i);
+        if modes[at] <= mode_at(state, m) || 2 <= tag_at(state, m) {
+            return at;
         }
         i += 1;
     }
@@ -110,10 +113,12 @@ pub fn present(state: &[u8], numbers: &[u8], weights: &[u8]) -> [u8; Sheet::MACH
         → getD r k 0 ≡ modeNumber m (now (numbers .entry)) k (modes (now (state .entry)))) ⌝ }
 {
     let mut r = [0u8; Sheet::MACHINES];
-    let mut i: usize = 0;
-    while i < numbers.len() {
-        let k = wide(numbers[i]);
-        r[k] += mode_at(state, i) * weights[i];
+    let mut i: u8 = 0;
+    while wide(i) < numbers.len() {
+        let m = Machine(i);
+        let group = group_of(numbers, m);
+        let k = wide(group.0);
+        r[k] += mode_at(state, m) * weights[wide(i)];
         i += 1;
     }
     r

@@ -1,8 +1,8 @@
 // Whether the groups of a picture have their numbers in turn.
 use plan::partition::members;
+use plan::sizing::Group;
 use plan::sizing::group_of;
 use sheet::index::Machine;
-use sheet::record::wide;
 ghost use mathlib.Core.Path.{_≡_};
 ghost use mathlib.Core.Bool.{true, not, _&&_};
 ghost use Prim.Native.Nat.{ℕ, _<_};
@@ -30,15 +30,15 @@ fn machines_of(members: &[u64], groups: u64) -> u64
     r
 }
 
-// Number k is that of the first of the machines that are ready for it.
-fn in_turn(numbers: &[u8], ready: u64, k: usize) -> bool
-    ensures { λ r. ⌜ r ≡ (not (eqb ready 0) && eqb (getD (now (numbers .entry)) (least ready) 0) k) ⌝ }
+// A group is that of the first of the machines that are ready for its number.
+fn in_turn(numbers: &[u8], ready: u64, group: Group) -> bool
+    ensures { λ r. ⌜ r ≡ (not (eqb ready 0) && eqb (getD (now (numbers .entry)) (least ready) 0) (group .0)) ⌝ }
 {
     if ready == 0 {
         return false;
     }
     let first = group_of(numbers, Machine(sets::lowest(ready) as u8));
-    wide(first.0) == k
+    first.0 == group.0
 }
 
 // Each number is in its turn: going down from the last, with the machines of later groups, and those that wait for one.
@@ -58,7 +58,7 @@ pub fn all_in_turn(numbers: &[u8], targets: &[u64]) -> bool
         waiting = sets::join(waiting, targets[k]);
         later = sets::join(later, machines[k]);
         held = sets::join(held, machines_of(&machines, new));
-        if !in_turn(numbers, sets::minus(later, held), k) {
+        if !in_turn(numbers, sets::minus(later, held), Group(k as u8)) {
             return false;
         }
     }

@@ -30,10 +30,10 @@ module _ (numbers : Grouping) where
   pub counted-none : Counted numbers 0 0
   counted-none = record { inside = zero-le; whole = omega arith }
 
-  pub counted-next : {i r n q : ℕ} → Counted numbers i r → i < length numbers → n ≡ getD numbers i 0 → q ≡ max r (n + 1)
-      → Counted numbers (i + 1) q
+  pub counted-next : {i r g k q : ℕ} → Counted numbers i r → i < length numbers → g ≡ groupOf numbers i → k ≡ g
+      → q ≡ max r (k + 1) → Counted numbers (i + 1) q
   unfolding groupCount maximum
-  counted-next {i} c l e eq =
+  counted-next {i} c l e f eq =
       record {
         inside = omega arith;
         whole = rw add-one (omega (arith, rw (drop-cons numbers i 0 l) at (c .whole)));

@@ -21,7 +21,7 @@ use Rattle.common.proofs.Snoc.{any-snoc}
 use Rattle.sets.specs.Kept.Sets.{below}
 use Rattle.sets.proofs.Digits.{same-bits}
 use Rattle.sets.proofs.Laws.{bit-none, bit-first}
-use Rattle.plan.specs.Groups.{Grouping, groupCount}
+use Rattle.plan.specs.Groups.{Grouping, groupOf, groupCount}
 use Rattle.plan.specs.Reading.{gapless}
 use Rattle.plan.specs.Kept.Outline.{Used}
 use Rattle.plan.proofs.Named.{group-below-count}
@@ -37,14 +37,14 @@ module _ (numbers : List ℕ) where
   unfolding any
   used-none = record { within = zero-le; bits = λ k h. bit-none k }
 
-  pub used-next : {r i w t : ℕ} → UsedUpto numbers r i → i < length numbers → w ≡ getD numbers i 0
-      → ((j : ℕ) → j < 64 → bit t j ≡ (bit r j || eqb w j)) → UsedUpto numbers t (i + 1)
+  pub used-next : {r i g k t : ℕ} → UsedUpto numbers r i → i < length numbers → g ≡ groupOf numbers i → k ≡ g
+      → ((j : ℕ) → j < 64 → bit t j ≡ (bit r j || eqb k j)) → UsedUpto numbers t (i + 1)
   unfolding any
-  used-next {i = i} u h e bits =
+  used-next {i = i} u h e f bits =
       record {
         within = omega arith;
         bits = λ k l.
-            bits k l ∙ rw (u .bits k l, e, add-one, take-suc numbers i 0 h, any-snoc)
+            bits k l ∙ rw (u .bits k l, f, e, add-one, take-suc numbers i 0 h, any-snoc)
             (ap (_||_ (any (eqb k) (take i numbers))) (eqb-swap _ k));
       }
 

@@ -39,9 +39,10 @@ module _ (before numbers : List ℕ) (machines k : ℕ) where
     pub put-fits : g < 32
     put-fits = rw (eg, e) (u .below .below (least rest) (least-member (u .fits) some))
 
-    pub put-next : {s t : ℕ} → s ≡ union (getD out g 0) (alone k) → t ≡ less rest (alone j) → PutUpto t (set out g s)
+    pub put-next : {b s t : ℕ} → s ≡ union (getD out g 0) (alone b) → b ≡ k → t ≡ less rest (alone j)
+        → PutUpto t (set out g s)
     unfolding someOf any
-    put-next {s} {t} es et =
+    put-next {s = s} {t} es eb et =
         record {
           fits = taken-fits (u .fits) some e et;
           long = length-set out g s ∙ u .long;
@@ -58,7 +59,7 @@ module _ (before numbers : List ℕ) (machines k : ℕ) where
         same : (a b : ℕ) → (bit (getD (set out g s) a 0) b || eqb k b && someOf numbers t a)
             ≡ (bit (getD out a 0) b || eqb k b && someOf numbers rest a)
         same a b =
-            rw (es, bit-joined out g (alone k) a b (omega (arith, put-fits, u .long)), bit-alone)
+            rw (es, eb, bit-joined out g (alone k) a b (omega (arith, put-fits, u .long)), bit-alone)
             (rw (taken-elements (u .fits) some e et, ← eg) (order (bit (getD out a 0) b) (eqb g a) (eqb k b) _))
 
   pub put-end : {rest : ℕ} {out : List ℕ} → PutUpto rest out → rest ≡ 0 → PutInto before numbers machines k out

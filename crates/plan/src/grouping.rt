@@ -1,4 +1,5 @@
 // The groups of a sheet: sets of machines that need one another, numbered so that needs come first.
+use crate::sizing::Group;
 use crate::sizing::group_of;
 use sheet::index::Machine;
 use sheet::index::Sheet;
@@ -161,18 +162,18 @@ pub fn groups(s: &[u8], sheet: Sheet) -> [u8; sets::NUMBERS]
     by_needs(&next, sheet.machines)
 }
 
-// Puts k into the sets of the groups of some machines.
-fn put_into(into: &mut [u64], numbers: &[u8], machines: u64, k: usize)
-    requires { ⌜ (length (now into) ≡ 32) × (length (now numbers) ≡ 64) × (k < 64)
+// Puts a group into the sets of the groups of some machines.
+fn put_into(into: &mut [u64], numbers: &[u8], machines: u64, group: Group)
+    requires { ⌜ (length (now into) ≡ 32) × (length (now numbers) ≡ 64) × (group .0 < 64)
         × GroupsBelow (now numbers) machines ⌝ }
-    ensures { λ _. ⌜ PutInto (now (into .entry)) (now (numbers .entry)) machines k (now (into .exit)) ⌝ }
+    ensures { λ _. ⌜ PutInto (now (into .entry)) (now (numbers .entry)) machines (group .0) (now (into .exit)) ⌝ }
 {
     let mut rest = machines;
     while rest != 0 {
         let j = sets::lowest(rest);
-        let group = group_of(numbers, Machine(j as u8));
-        let a = wide(group.0);
-        into[a] = sets::with(into[a], k);
+        let own = group_of(numbers, Machine(j as u8));
+        let a = wide(own.0);
+        into[a] = sets::with(into[a], wide(group.0));
         rest = sets::rest(rest);
     }
 }
@@ -186,7 +187,7 @@ fn put_targets(next: &[u64], numbers: &[u8], n: usize, targets: &mut [u64])
     while i < n {
         let group = group_of(numbers, Machine(i as u8));
         let k = wide(group.0);
-        put_into(targets, numbers, next[i], k);
+        put_into(targets, numbers, next[i], group);
         targets[k] = sets::without(targets[k], k);
         i += 1;
     }

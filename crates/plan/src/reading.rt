@@ -1,5 +1,7 @@
 // Reading a plan back, whoever wrote it: whether its records fit, where its tables begin, the bound.
 use crate::sizing::count;
+use crate::sizing::group_at;
+use sheet::index::Machine;
 use sheet::index::Sheet;
 use sheet::record::Record;
 use sheet::record::body;
@@ -39,12 +41,14 @@ fn has_record(plan: &[u8], at: usize, kind: u16, len: usize) -> bool
 
 // The numbers that occur, below 64.
 fn used(numbers: &[u8]) -> u64
+    requires { ⌜ length (now numbers) ≤ 32 ⌝ }
     ensures { λ r. ⌜ Used (now (numbers .entry)) r ⌝ }
 {
     let mut r: u64 = 0;
-    let mut i: usize = 0;
-    while i < numbers.len() {
-        r = sets::put(r, wide(numbers[i]));
+    let mut i: u8 = 0;
+    while wide(i) < numbers.len() {
+        let group = group_at(numbers, Machine(i));
+        r = sets::put(r, wide(group.0));
         i += 1;
     }
     r

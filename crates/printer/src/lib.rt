@@ -36,11 +36,11 @@ fn modes(mask: u8) {
 }
 
 // The line of a machine: its number, modes and live modes.
-fn machine_line(sheet: Sheet, m: u8) {
-    labelled(b"machine ", m as u64);
-    labelled(b": modes ", sheet.mode_count(Machine(m)) as u64);
+fn machine_line(sheet: Sheet, m: Machine) {
+    labelled(b"machine ", m.0 as u64);
+    labelled(b": modes ", sheet.mode_count(m) as u64);
     text(b", live");
-    modes(sheet.live_modes(Machine(m)));
+    modes(sheet.live_modes(m));
     text(b"\n");
 }
 
@@ -84,7 +84,7 @@ fn machine_lines(sheet: Sheet) {
     let count = sheet.machines;
     let mut m: usize = 0;
     while m < count {
-        machine_line(sheet, byte(m));
+        machine_line(sheet, Machine(byte(m)));
         m += 1;
     }
 }

@@ -1,5 +1,7 @@
 use Prim.Native.Nat.{_-_, _≤_}
+use mathlib.Core.Path.{_∙_}
 use mathlib.Core.Logic.{⊎-elim}
+use native.Mathlib.Omega.{arith}
 use borrow.Author.Needs.{needs}
 use Rattle.command.proofs.StateTest.{GoodPairs, pairs-none, pairs-next, pairs-end, bad-mode, bad-tag}
 use Rattle.command.proofs.state.first_bad.Statement.{statement}
@@ -14,8 +16,14 @@ abbrev μ-loop : tie.MeasureT-loop
 loop-holds : tie.Need-loop-holds Inv-loop μ-loop
 loop-holds c = (search needs, pairs-none)
 
-shared-slice-read-if1 : tie.Need-shared-slice-read-if1 Inv-loop μ-loop
-shared-slice-read-if1 c = search needs
+wide-requires : tie.Need-wide-requires Inv-loop μ-loop
+wide-requires c κs = search needs
+
+wide-requires-2 : tie.Need-wide-requires-2 Inv-loop μ-loop
+wide-requires-2 c κs = search needs
+
+shared-slice-read-if2 : tie.Need-shared-slice-read-if2 Inv-loop μ-loop
+shared-slice-read-if2 c = search needs
 
 mode-at-requires : tie.Need-mode-at-requires Inv-loop μ-loop
 mode-at-requires c κs = search needs
@@ -26,12 +34,12 @@ tag-at-requires c κs = search needs
 returns : tie.Need-returns Inv-loop μ-loop
 returns c m h =
     let at-mode = c .before in
-    let inv = at-mode .before .before .before .loop .inv .1 in
-    let test = at-mode .before .before .loop-test .taken in
-    ⊎-elim
-    (λ w. bad-mode inv (at-mode .mode-at .ensures) test m h (w .taken))
-    (λ w. bad-tag inv (at-mode .mode-at .ensures) test m h (w .1 .ensures) (w .2 .taken))
-    (c .if1 .came)
+    let at-wide = at-mode .before .before in
+    let inv = at-wide .before .before .before .loop .inv .1 in
+    at-wide .wide2 .ensures .0 ∙ ⊎-elim
+    (λ w. bad-mode inv (at-mode .mode-at .ensures) (omega arith) m h (rw (at-wide .wide2 .ensures .0) at (w .taken)))
+    (λ w. bad-tag inv (at-mode .mode-at .ensures) (omega arith) m h (w .1 .ensures) (w .2 .taken))
+    (c .if2 .came)
 
 add-i : tie.Need-add-i Inv-loop μ-loop
 add-i c = search needs
@@ -41,15 +49,16 @@ loop-less c = search needs
 
 loop-again : tie.Need-loop-again Inv-loop μ-loop
 loop-again c =
-    let at-mode = c .before .before .before in (
+    let at-mode = c .before .before .before in
+    let at-wide = at-mode .before .before in (
       search needs,
       pairs-next
-          (at-mode .before .before .before .loop .inv .1) (at-mode .mode-at .ensures) (c .before .before .if1 .left)
-          (c .before .tag-at .ensures) (c .if2 .left),
+          (at-wide .before .before .before .loop .inv .1) (at-mode .mode-at .ensures)
+          (rw (at-wide .wide2 .ensures .0) at (c .before .before .if2 .left)) (c .before .tag-at .ensures) (c .if3 .left),
     )
 
 returns-2 : tie.Need-returns-2 Inv-loop μ-loop
-returns-2 c m h = pairs-end (c .before .loop .inv .1) (c .loop-test .left) m h
+returns-2 c m h = pairs-end (c .before .before .loop .inv .1) (omega arith) m h
 
 pub first-bad-spec : {M : Type 1} → statement M
 first-bad-spec =
@@ -58,7 +67,9 @@ first-bad-spec =
     Inv-loop
     μ-loop
     loop-holds
-    shared-slice-read-if1
+    wide-requires
+    wide-requires-2
+    shared-slice-read-if2
     mode-at-requires
     tag-at-requires
     returns

@@ -1,8 +1,13 @@
-use mathlib.Core.Path.{sym}
+use Prim.Native.Nat.{_*_}
+use mathlib.Core.Path.{sym, ap, _∙_}
 use borrow.Author.Needs.{needs}
+use Rattle.sheet.specs.Record.{byte}
 use Rattle.command.proofs.States.{mode-place}
 use Rattle.command.proofs.state.mode_at.Statement.{statement}
 use Rattle.command.proofs.state.mode_at.Tie as tie
+
+wide-requires : tie.Need-wide-requires
+wide-requires c κs = search needs
 
 mul-result : tie.Need-mul-result
 mul-result c = search needs
@@ -11,7 +16,9 @@ shared-slice-read-result : tie.Need-shared-slice-read-result
 shared-slice-read-result c = search needs
 
 returns : tie.Need-returns
-returns c = sym (mode-place _ _)
+returns c =
+    let state = c .before .before .before .args .state .now in
+    ap (λ i. byte state (2 * i)) (c .before .wide .ensures .0) ∙ sym (mode-place state _)
 
 pub mode-at-spec : {M : Type 1} → statement M
-mode-at-spec = tie.close (tie.spec mul-result shared-slice-read-result returns)
+mode-at-spec = tie.close (tie.spec wide-requires mul-result shared-slice-read-result returns)

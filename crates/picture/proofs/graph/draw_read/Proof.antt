@@ -2,7 +2,7 @@ use mathlib.Core.Path.{_≡_, sym}
 use native.Mathlib.Omega.{arith}
 use lib.ListN.{length}
 use lib.Seq.{length-take-le}
-use Rattle.plan.proofs.SheetGroups.{machines-fit}
+use Rattle.plan.proofs.SheetGroups.{few-machines, machines-fit}
 use Rattle.plan.proofs.SheetLength.{numbers-are}
 use Rattle.picture.proofs.SheetDrawn.{count-fits, drawn-shows, drawn-picture}
 use borrow.Author.Needs.{needs}
@@ -26,7 +26,8 @@ slice-aggregate-count c =
     sym (length-take-le _ _ (omega (arith, machines-fit (c .before .before .before .before .before .before .pre))))
 
 count-requires : tie.Need-count-requires
-count-requires c κs = search needs
+count-requires c κs =
+    omega (arith, slice-aggregate-count c, few-machines (c .before .before .before .before .before .before .pre))
 
 array-share-prefix-numbers-2 : tie.Need-array-share-prefix-numbers-2
 array-share-prefix-numbers-2 c =

@@ -7,13 +7,6 @@ use Rattle.picture.proofs.TurnLoop.{TurnSets, sets-none, new-groups, se
 use borrow.Author.Needs.{needs}
 use Rattle.picture.proofs.turns.all_in_turn.Statement.{statement}
 use Rattle.picture.proofs.turns.all_in_turn.Tie as tie
-use Rattle.picture.proofs.turns.all_in_turn.Reads as reads
-use Rattle.picture.proofs.turns.all_in_turn.Lts as lts
-use Rattle.picture.proofs.turns.in_turn.Reads as in-turn-reads
-use Rattle.picture.proofs.turns.machines_of.Reads as machines-of-reads
-use Rattle.plan.proofs.partition.members.Reads as members-reads
-use Rattle.sets.proofs.join.Reads as join-reads
-use Rattle.sets.proofs.minus.Reads as minus-reads
 
 abbrev Inv-loop : tie.InvT-loop
 Inv-loop numbers targets machines waiting₀ later₀ held₀ k₀ waiting later held k = TurnSets numbers targets k waiting later held
@@ -21,59 +14,45 @@ Inv-loop numbers targets machines waiting₀ later₀ held₀ k₀ waiting later
 abbrev μ-loop : tie.MeasureT-loop
 μ-loop numbers targets machines waiting₀ later₀ held₀ k₀ waiting later held k = k
 
--- src/turns.rt:45:20
 members-requires : tie.Need-members-requires Inv-loop μ-loop
 members-requires c κs = (c .before .before .pre .few-machines, number-fits (c .before .before .pre))
 
--- src/turns.rt:50:5
 loop-holds : tie.Need-loop-holds Inv-loop μ-loop
 loop-holds c = sets-none (c .before .before .before .pre)
 
--- src/turns.rt:51:9
 sub-k : tie.Need-sub-k Inv-loop μ-loop
 sub-k c = search needs
 
--- src/turns.rt:52:31
 mul-minus : tie.Need-mul-minus Inv-loop μ-loop
 mul-minus c = search needs
 
--- src/turns.rt:52:31
 shared-slice-read-minus : tie.Need-shared-slice-read-minus Inv-loop μ-loop
 shared-slice-read-minus c = search needs
 
--- src/turns.rt:52:13
 minus-requires : tie.Need-minus-requires Inv-loop μ-loop
 minus-requires c κs = search needs
 
--- src/turns.rt:53:39
 mul-join : tie.Need-mul-join Inv-loop μ-loop
 mul-join c = search needs
 
--- src/turns.rt:53:39
 shared-slice-read-join : tie.Need-shared-slice-read-join Inv-loop μ-loop
 shared-slice-read-join c = search needs
 
--- src/turns.rt:53:9
 join-requires : tie.Need-join-requires Inv-loop μ-loop
 join-requires c κs = search needs
 
--- src/turns.rt:54:35
 mul-join-2 : tie.Need-mul-join-2 Inv-loop μ-loop
 mul-join-2 c = search needs
 
--- src/turns.rt:54:35
 array-read-join : tie.Need-array-read-join Inv-loop μ-loop
 array-read-join c = search needs
 
--- src/turns.rt:54:9
 join-requires-2 : tie.Need-join-requires-2 Inv-loop μ-loop
 join-requires-2 c κs = search needs
 
--- src/turns.rt:55:45
 slice-aggregate-machines-of : tie.Need-slice-aggregate-machines-of Inv-loop μ-loop
 slice-aggregate-machines-of c = search needs
 
--- src/turns.rt:55:33
 machines-of-requires : tie.Need-machines-of-requires Inv-loop μ-loop
 machines-of-requires c κs =
     let in-loop = c .before .before .before .before .before .before in
@@ -88,19 +67,18 @@ machines-of-requires c κs =
       new-groups (start .pre) (members .ensures) (in-loop .before .loop .inv) (in-loop .loop-test .taken) new g t,
     )
 
--- src/turns.rt:55:9
 join-requires-3 : tie.Need-join-requires-3 Inv-loop μ-loop
 join-requires-3 c κs = search needs
 
--- src/turns.rt:56:30
 minus-requires-2 : tie.Need-minus-requires-2 Inv-loop μ-loop
 minus-requires-2 c κs = search needs
 
--- src/turns.rt:56:13
+cast-t19 : tie.Need-cast-t19 Inv-loop μ-loop
+cast-t19 c = search needs
+
 in-turn-requires : tie.Need-in-turn-requires Inv-loop μ-loop
 in-turn-requires c κs = search needs
 
--- src/turns.rt:57:13
 returns : tie.Need-returns Inv-loop μ-loop
 returns c =
     let in-loop = c .before .before .before .before .before .before .before .before .before .before .before in
@@ -118,11 +96,9 @@ returns c =
     set-turn (start .pre) m u some new waiting later added held ready (search needs) (c .before .in-turn .ensures) in
     sets-fail (start .pre) m u some new waiting later added held (sym turn ∙ not-true _ (c .if1 .taken))
 
--- src/turns.rt:50:5
 loop-less : tie.Need-loop-less Inv-loop μ-loop
 loop-less c = search needs
 
--- src/turns.rt:50:5
 loop-again : tie.Need-loop-again Inv-loop μ-loop
 loop-again c =
     let in-loop = c .before .before .before .before .before .before .before .before .before .before .before in
@@ -140,7 +116,6 @@ loop-again c =
     set-turn (start .pre) m u some new waiting later added held ready (search needs) (c .before .in-turn .ensures) in
     sets-next (start .pre) m u some new waiting later added held (sym turn ∙ not-false _ (c .if1 .left))
 
--- src/turns.rt:40:1
 returns-2 : tie.Need-returns-2 Inv-loop μ-loop
 returns-2 c = turns-all _ _ (c .before .loop .inv .turns) (c .loop-test .left)
 
@@ -166,6 +141,7 @@ all-in-turn-spec =
     machines-of-requires
     join-requires-3
     minus-requires-2
+    cast-t19
     in-turn-requires
     returns
     loop-less

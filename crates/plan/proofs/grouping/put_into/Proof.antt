@@ -10,10 +10,10 @@ use Rattle.plan.proofs.grouping.put_into.Statement.{statement}
 use Rattle.plan.proofs.grouping.put_into.Tie as tie
 
 abbrev Inv-loop : tie.InvT-loop
-Inv-loop into₀ numbers machines k rest₀ into rest = PutUpto into₀ numbers machines k rest into
+Inv-loop into₀ numbers machines group rest₀ into rest = PutUpto into₀ numbers machines (group .0) rest into
 
 abbrev μ-loop : tie.MeasureT-loop
-μ-loop into₀ numbers machines k rest₀ into rest = length (elements rest)
+μ-loop into₀ numbers machines group rest₀ into rest = length (elements rest)
 
 loop-holds : tie.Need-loop-holds Inv-loop μ-loop
 loop-holds c = search put-none
@@ -40,17 +40,24 @@ slice-read-with c = let number = c .before .wide .ensures .0 ∙ c .before .befo
     let l : c .before .wide .result < 32 = search (put-fits, number) in
     omega arith
 
+wide-requires-2 : tie.Need-wide-requires-2 Inv-loop μ-loop
+wide-requires-2 c κs = search needs
+
 with-requires : tie.Need-with-requires Inv-loop μ-loop
 with-requires c κs = search needs
 
 mul-into : tie.Need-mul-into Inv-loop μ-loop
-mul-into c = let number = c .before .before .wide .ensures .0 ∙ c .before .before .before .group-of .ensures in
-    let l : c .before .before .wide .result < 32 = search (put-fits, number) in
+mul-into c =
+    let at-wide = c .before .before .before in
+    let number = at-wide .wide .ensures .0 ∙ at-wide .before .group-of .ensures in
+    let l : at-wide .wide .result < 32 = search (put-fits, number) in
     omega arith
 
 slice-write-into : tie.Need-slice-write-into Inv-loop μ-loop
-slice-write-into c = let number = c .before .before .wide .ensures .0 ∙ c .before .before .before .group-of .ensures in
-    let l : c .before .before .wide .result < 32 = search (put-fits, number) in
+slice-write-into c =
+    let at-wide = c .before .before .before in
+    let number = at-wide .wide .ensures .0 ∙ at-wide .before .group-of .ensures in
+    let l : at-wide .wide .result < 32 = search (put-fits, number) in
     omega arith
 
 rest-requires : tie.Need-rest-requires Inv-loop μ-loop
@@ -60,7 +67,9 @@ loop-less : tie.Need-loop-less Inv-loop μ-loop
 loop-less c = search (taken-shorter, taken-rest)
 
 loop-again : tie.Need-loop-again Inv-loop μ-loop
-loop-again c = let number = c .before .before .before .wide .ensures .0 ∙ c .before .before .before .before .group-of .ensures in
+loop-again c =
+    let at-wide = c .before .before .before .before in
+    let number = at-wide .wide .ensures .0 ∙ at-wide .before .group-of .ensures in
     search (put-next, taken-rest, number)
 
 same-length : tie.Need-same-length Inv-loop μ-loop
@@ -82,6 +91,7 @@ put-into-spec =
     wide-requires
     mul-with
     slice-read-with
+    wide-requires-2
     with-requires
     mul-into
     slice-write-into

@@ -84,7 +84,8 @@ loop-again c =
     let in-loop = at-wide .before .before in
     let number = at-wide .wide .ensures .0 ∙ at-wide .before .group-of .ensures in
     let fits = target-fits _ _ _ (in-loop .before .before .before .before .before .pre .0) (in-loop .loop-test .taken) number in
-    targets-next _ _ _ (in-loop .before .loop .inv) (in-loop .loop-test .taken) fits number (put .kept .0) (put .ensures) (c .without .ensures)
+    targets-next _ _ _ (in-loop .before .loop .inv) (in-loop .loop-test .taken) fits number (put .kept .0)
+    (rw (← at-wide .wide .ensures .0) at (put .ensures)) (c .without .ensures)
 
 same-length : tie.Need-same-length Inv-loop μ-loop
 same-length c = c .before .loop .inv .long ∙ sym (ap length (c .before .before .before .before .before .pre .1))

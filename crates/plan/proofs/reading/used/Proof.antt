@@ -1,4 +1,5 @@
 use Prim.Native.Nat.{_-_}
+use native.Mathlib.Omega.{arith}
 use lib.ListN.{length}
 use Rattle.plan.proofs.NumbersUsed.{UsedUpto, used-none, used-next, used-end}
 use borrow.Author.Needs.{needs}
@@ -14,11 +15,14 @@ abbrev μ-loop : tie.MeasureT-loop
 loop-holds : tie.Need-loop-holds Inv-loop μ-loop
 loop-holds c = used-none _
 
-shared-slice-read-wide : tie.Need-shared-slice-read-wide Inv-loop μ-loop
-shared-slice-read-wide c = search needs
-
 wide-requires : tie.Need-wide-requires Inv-loop μ-loop
 wide-requires c κs = search needs
+
+group-at-requires : tie.Need-group-at-requires Inv-loop μ-loop
+group-at-requires c κs = search needs
+
+wide-requires-2 : tie.Need-wide-requires-2 Inv-loop μ-loop
+wide-requires-2 c κs = search needs
 
 put-requires : tie.Need-put-requires Inv-loop μ-loop
 put-requires c κs = search needs
@@ -30,10 +34,12 @@ loop-less : tie.Need-loop-less Inv-loop μ-loop
 loop-less c = search needs
 
 loop-again : tie.Need-loop-again Inv-loop μ-loop
-loop-again c = search used-next
+loop-again c =
+    let inv = c .before .before .before .before .before .loop .inv in
+    used-next _ inv (omega arith) (c .before .before .group-at .ensures) (c .before .wide2 .ensures .0) (c .put .ensures)
 
 returns : tie.Need-returns Inv-loop μ-loop
-returns c = search used-end
+returns c = used-end _ (c .before .before .loop .inv) (omega arith)
 
 pub used-spec : {M : Type 1} → statement M
 used-spec =
@@ -42,8 +48,9 @@ used-spec =
     Inv-loop
     μ-loop
     loop-holds
-    shared-slice-read-wide
     wide-requires
+    group-at-requires
+    wide-requires-2
     put-requires
     add-i
     loop-less
