@@ -6,15 +6,16 @@ use mathlib.Core.Bool.{Bool, true, false}
 use mathlib.Core.List.{List, [], _∷_}
 use native.Mathlib.Omega.{arith}
 use borrow.Author.Tests.{leb-false, ltb-false, lt-ltb, le-ltb, le-leb, lt-leb, eq-eqb, ne-eqb}
-use lib.Dec.{eqb, ltb}
+use lib.Dec.{eqb}
 use lib.ListN.{length}
 use Rattle.common.specs.Reply.{refused, fault, unless}
-use Rattle.common.proofs.Bools.{or-false-left, or-false-right}
+use Rattle.common.proofs.Bools.{or-false-left}
 use Rattle.common.proofs.Pad.{getD-pad}
 use Rattle.sheet.specs.declared.judge.Counts.{Counts}
 use Rattle.sheet.specs.Record.{byte}
 use Rattle.sheet.specs.Model.{Model, modeCount, moveOf}
-use Rattle.sheet.specs.Faults.{wrongMoveLength, badMachine, badMove, badGuards, machineFaults, endFaults, faultsOf}
+use Rattle.sheet.specs.Faults.{wrongMoveLength, badMachine, badMove, badGuards}
+use Rattle.sheet.specs.Faults.{machineFaults, endFaults, faultsOf}
 use Rattle.sheet.specs.Kept.Held.{fine, deadMove, wrongGuards, ownMoveFaults, ownFaults, Counted, Held}
 use Rattle.sheet.specs.Kept.Sent.{Small}
 use Rattle.sheet.proofs.Fits.{has-modes}
@@ -26,7 +27,8 @@ pub passed-small : (m : Model) {counts : Counts} {tops live : List ℕ} (body : 
     → badMove (m .modes) (m .live) (moveOf body) ≡ false → byte body 3 < 256 → Small (moveOf body)
 unfolding badMove moveOf
 passed-small m body h f last =
-    let from : byte body 1 < modeCount m (byte body 0) = leb-false _ _ (or-false-left _ _ (or-false-left _ _ (or-false-left _ _ (or-false-left _ _ f)))) in
+    let from : byte body 1 < modeCount m (byte body 0) =
+    leb-false _ _ (or-false-left _ _ (or-false-left _ _ (or-false-left _ _ (or-false-left _ _ f)))) in
     let present = has-modes m (byte body 0) (omega arith) in
     record {
       machine = omega (arith, h .counted .machines-are, h .few-machines);
@@ -34,12 +36,10 @@ passed-small m body h f last =
       command = last;
     }
 
--- a move's body has its four first bytes, and at most 20
-pub move-long : (n : ℕ) {a : Bool} → a ≡ wrongMoveLength n → a ≡ false → (4 ≤ n) × (n ≤ 20)
+-- a move's body has its four first bytes
+pub move-long : (n : ℕ) {a : Bool} → a ≡ wrongMoveLength n → a ≡ false → 4 ≤ n
 unfolding wrongMoveLength
-move-long n e f =
-    let q = or-false-left _ _ (sym e ∙ f) in
-    (ltb-false _ _ (or-false-left _ _ q), ltb-false _ _ (or-false-right (ltb n 4) _ q))
+move-long n e f = ltb-false _ _ (or-false-left _ _ (or-false-left _ _ (sym e ∙ f)))
 
 -- the causes that are judged here, by the kind of the record
 module _ (m : Model) (at kind : ℕ) (body : List ℕ) where
@@ -96,7 +96,7 @@ move-length m at body e t = rw (← e, t)
 
 -- and by what is held: 4, 6, 7, and 8 for no command
 module _ (m : Model) (at : ℕ) {counts : Counts} {tops live : List ℕ} (body : List ℕ) (h : Held m counts tops live)
-    (t : wrongMoveLength (length body) ≡ false) where
+    {a : Bool} (e : a ≡ wrongMoveLength (length body)) (f : a ≡ false) where
   held-dead : badMove (m .modes) (m .live) (moveOf body) ≡ deadMove live (moveOf body)
   unfolding deadMove
   held-dead = bad-move-dead _ _ _ (h .live-within _) ∙ rw (h .live-in, getD-pad)
@@ -106,21 +106,25 @@ module _ (m : Model) (at : ℕ) {counts : Counts} {tops live : List ℕ} (body :
 
   pub move-early : counts .machines ≡ 0 → refused 4 at ≡ unless (ownMoveFaults m at body) fine
   unfolding unless ownMoveFaults
-  move-early z = rw (t, h .counted .machines-are, eq-eqb _ _ z)
+  move-early z = rw (← e, f, h .counted .machines-are, eq-eqb _ _ z)
 
   module _ (z : counts .machines ≡ 0 → ⊥) where
     pub move-many : 250 ≤ counts .moves → refused 4 at ≡ unless (ownMoveFaults m at body) fine
     unfolding unless ownMoveFaults
-    move-many k = rw (t, h .counted .machines-are, ne-eqb _ _ z, h .counted .moves-are, le-leb _ _ k)
+    move-many k = rw (← e, f, h .counted .machines-are, ne-eqb _ _ z, h .counted .moves-are, le-leb _ _ k)
 
     module _ {b : Bool} (k : counts .moves < 250) (eb : b ≡ deadMove live (moveOf body)) where
       placed : unless (ownMoveFaults m at body) fine
           ≡ unless
-          (fault 6 at b ∷ fault 7 at (wrongGuards tops (moveOf body)) ∷ fault 8 at (eqb (moveOf body .command) 0) ∷ []) fine
+          (fault 6 at b
+          ∷ fault 7 at (wrongGuards tops (moveOf body))
+          ∷ fault 8 at (eqb (moveOf body .command) 0)
+          ∷ []) fine
       unfolding unless ownMoveFaults
       placed =
           rw (
-            t,
+            ← e,
+            f,
             h .counted .machines-are,
             ne-eqb _ _ z,
             h .counted .moves-are,

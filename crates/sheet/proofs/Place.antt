@@ -63,7 +63,8 @@ stopped-listed s k p r = go k p (r .stop)
   where
     go : (k p : ℕ) → Stop s (r .place) (r .before) (refused k p) → Listed s k p
     go k p (at-fault q) =
-        turn-listed s (r .place) (r .before) (recordAt s (r .place)) (r .kept .inside) (sound-small s (r .place) (r .before) (r .kept)) refl q
+        turn-listed s (r .place) (r .before) (recordAt s (r .place)) (r .kept .inside)
+        (sound-small s (r .place) (r .before) (r .kept)) refl q
     go k p none-left = omega (arith, r .kept .inside, sound-small s (r .place) (r .before) (r .kept))
 
 module _ (s : List ℕ) {n p : ℕ} (q : parse s ≡ refused n p) where

@@ -4,6 +4,8 @@ use Prim.Native.Nat.{ℕ, _+_, _*_, _-_, _≤_, _<_}
 use mathlib.Core.Path.{_≡_, refl, sym, ap, _∙_}
 use mathlib.Core.List.{List}
 use native.Mathlib.Omega.{arith}
+use mir.Val.{Fits}
+use mir.Syntax.{w8}
 use lib.ListN.{length, replicate, length-map}
 use Rattle.common.specs.Lists.{pad}
 use Rattle.common.specs.Reply.{given, refused}
@@ -12,14 +14,24 @@ use Rattle.sheet.specs.declared.record.Record.{Record}
 use Rattle.sheet.specs.declared.record.Record.the-variants.{Cut}
 use Rattle.sheet.specs.declared.index.Sheet.{Sheet}
 use Rattle.sheet.specs.declared.index.Reading.{Reading}
-use Rattle.sheet.specs.Record.{recordAt}
+use Rattle.sheet.specs.Record.{byte, recordAt}
 use Rattle.sheet.specs.Parse.{Parsed, nothing, more, turnOf, parseFrom, parse}
 use Rattle.sheet.specs.Index.{indexOf, readingOf, indexReply, sheetOf}
 use Rattle.sheet.specs.Kept.Held.{topOf, Held}
-use Rattle.sheet.specs.Kept.Sent.{Sent}
 use Rattle.sheet.proofs.Holding.{held-nothing}
 use Rattle.sheet.proofs.Keyed.{Keyed, keyed-nothing}
 use Rattle.sheet.proofs.Turns.{parse-cut, turn-next}
+
+-- an index with its live modes
+abbrev pub withLive : Sheet → List ℕ → Sheet
+withLive sheet lives =
+    record {
+      machines = sheet .machines;
+      moves = sheet .moves;
+      modes = sheet .modes;
+      live = lives;
+      bodies = sheet .bodies;
+    }
 
 -- some records have been read: the index and the arrays hold them, and what is left of the file decides the reply
 pub record Scanned (s : List ℕ) (sheet : Sheet) (lives tops pairs commands : List ℕ) (at : ℕ) : Type 0 where
@@ -31,12 +43,13 @@ pub record Scanned (s : List ℕ) (sheet : Sheet) (lives tops pairs commands : L
   pub keyed : Keyed (parsed .model .moves) pairs commands
   -- so where a body begins fits 16 bits
   pub near : at ≤ 6 * sheet .machines + 24 * sheet .moves
+  pub bytes : (i : ℕ) → Fits w8 (byte s i)
   pub leads : parse s ≡ parseFrom (283 - (sheet .machines + sheet .moves)) s at parsed
 
-pub scan-start : (s : List ℕ) {sheet : Sheet} → sheet ≡ indexOf nothing
+pub scan-start : (s : List ℕ) {sheet : Sheet} → ((i : ℕ) → Fits w8 (byte s i)) → sheet ≡ indexOf nothing
     → Scanned s sheet (replicate 32 0) (replicate 256 0) (replicate 512 0) (replicate 512 0) 0
 unfolding parse indexOf pad
-scan-start s e =
+scan-start s b e =
     rw e (record {
       parsed = nothing;
       held = held-nothing;
@@ -45,35 +58,26 @@ scan-start s e =
       bodies-are = refl;
       keyed = keyed-nothing;
       near = omega arith;
+      bytes = b;
       leads = refl;
     })
 
 module _ (s : List ℕ) {sheet : Sheet} {lives tops pairs commands : List ℕ} {at : ℕ}
     (h : Scanned s sheet lives tops pairs commands at) where
-  pub tops-long : length tops ≡ 256
+  pub tops-long : 256 ≡ length tops
   tops-long =
+      let all = length-map (h .parsed .model .modes) topOf in
       rw (h .held .tops-in)
-      (length-pad 256 _
-      (omega (arith, length-map (h .parsed .model .modes) topOf, h .held .counted .machines-are, h .held .few-machines)))
+      (sym (length-pad 256 _ (omega (arith, all, h .held .counted .machines-are, h .held .few-machines))))
 
-  -- the keys of the moves so far, as a table
-  pub keys-sent : (keys : List ℕ) × Sent keys pairs commands
-  keys-sent = (_, h .keyed .table)
+  pub lives-long : 32 ≡ length lives
+  lives-long = rw (h .held .live-in) (sym (length-pad 32 _ (omega (arith, h .held .live-are, h .held .few-machines))))
 
-  pub lives-long : length lives ≡ 32
-  lives-long = rw (h .held .live-in) (length-pad 32 _ (omega (arith, h .held .live-are, h .held .few-machines)))
-
-  -- the index with its live modes
-  pub index-is : record {
-    machines = sheet .machines;
-    moves = sheet .moves;
-    modes = sheet .modes;
-    live = lives;
-    bodies = sheet .bodies;
-  } ≡ indexOf (h .parsed)
+  pub index-is : withLive sheet lives ≡ indexOf (h .parsed)
   unfolding indexOf
   index-is =
-      rw (h .held .counted .machines-are, h .held .counted .moves-are, ← h .modes-in, ← h .held .live-in, ← h .bodies-in)
+      let n = h .held .counted in
+      rw (n .machines-are, n .moves-are, ← h .modes-in, ← h .held .live-in, ← h .bodies-in)
 
   -- how many records there may yet be
   abbrev pub left : ℕ
@@ -90,13 +94,8 @@ module _ (s : List ℕ) {sheet : Sheet} {lives tops pairs commands : List ℕ} {
   pub scan-cut : {r : Record} → r ≡ recordAt s at → r ≡ Cut → parse s ≡ refused 1 at
   scan-cut e w = h .leads ∙ parse-cut s at (h .parsed) left one-left (sym e ∙ w)
 
--- the reply, from what parsing the file finds
-module _ (s : List ℕ) where
-  pub reading-accepted : {x : Sheet} {d : Parsed} → x ≡ indexOf d → parse s ≡ given d
-      → (given x ≡ indexReply (parse s)) × (x ≡ sheetOf (parse s))
-  reading-accepted e p = (ap given e ∙ sym (ap indexReply p), e ∙ sym (ap sheetOf p))
-
-  pub reading-refused : (r : Reading) {number place : ℕ}
-      → (readingOf r ≡ refused number place) × (r .sheet ≡ indexOf nothing)
-      → parse s ≡ refused number place → (readingOf r ≡ indexReply (parse s)) × (r .sheet ≡ sheetOf (parse s))
-  reading-refused r e p = (e .0 ∙ sym (ap indexReply p), e .1 ∙ sym (ap sheetOf p))
+-- the reply to a faulty file, from what parsing it finds
+pub reading-refused : (s : List ℕ) (r : Reading) {number place : ℕ}
+    → (readingOf r ≡ refused number place) × (r .sheet ≡ indexOf nothing)
+    → parse s ≡ refused number place → (readingOf r ≡ indexReply (parse s)) × (r .sheet ≡ sheetOf (parse s))
+reading-refused s r e p = (e .0 ∙ sym (ap indexReply p), e .1 ∙ sym (ap sheetOf p))

@@ -50,10 +50,19 @@ seek-inside s = omega (arith, s .place)
 
 module _ {keys pairs commands : List ℕ} (h : Sent keys pairs commands) (key : ℕ) {at : ℕ}
     (s : Seeking pairs commands key at) where
+  pub seek-in-pairs : at < length pairs
+  seek-in-pairs = omega (arith, seek-inside s, h .pairs-long)
+
+  pub seek-in-commands : at < length commands
+  seek-in-commands = omega (arith, seek-inside s, h .commands-long)
+
   reached : Reached commands key at
   reached = record { far = s .far; place = s .place; taken = s .taken }
 
-  module _ (t : 0 < getD commands at 0) where
+  module _ (o : getD commands at 0 ≡ 0 → ⊥) where
+    t : 0 < getD commands at 0
+    t = omega arith
+
     taken-too : (e : ℕ) → e ≤ s .far → 0 < getD commands (behind (slotOf key) e) 0
     taken-too e l =
         by-cases (ltb e (s .far)) (λ y. s .taken e (ltb-true _ _ y)) (λ n.
@@ -77,28 +86,30 @@ module _ {keys pairs commands : List ℕ} (h : Sent keys pairs commands) (key : 
       unfolding slotsLeft behind
       seek-less = omega (arith, s .place, not-last, own-slot key)
 
-      pub seek-next : (keyAt pairs commands at ≡ key → ⊥) → Seeking pairs commands key next
+      pub seek-next : {b : Bool} → b ≡ eqb (keyAt pairs commands at) key → b ≡ false → Seeking pairs commands key next
       unfolding behind
-      seek-next other =
+      seek-next e f =
+          let other = eqb-false (keyAt pairs commands at) key (sym e ∙ f) in
           record {
             far = s .far + 1;
             near = omega (arith, not-last);
             place = omega (arith, s .place);
             taken = λ e l. taken-too e (omega arith);
             passed = λ e l.
-                by-cases (ltb e (s .far)) (λ y. s .passed e (ltb-true _ _ y)) (λ f.
-                let same : e ≡ s .far = omega (arith, ltb-false e (s .far) f) in
+                by-cases (ltb e (s .far)) (λ y. s .passed e (ltb-true _ _ y)) (λ k.
+                let same : e ≡ s .far = omega (arith, ltb-false e (s .far) k) in
                 rw (same, ← s .place) other);
           }
 
     -- the key is found
-    pub seek-found : keyAt pairs commands at ≡ key → Sought keys commands key at
-    seek-found e =
+    pub seek-found : {b : Bool} → b ≡ eqb (keyAt pairs commands at) key → b ≡ true → Sought keys commands key at
+    seek-found e y =
+        let same = eqb-true (keyAt pairs commands at) key (sym e ∙ y) in
         record {
           inside = seek-inside s;
           reached = reached;
           tells =
-              any-intro (eqb key) (h .held at t) (eq-eqb key _ (sym e)) ∙ sym (lt-ltb 0 (getD commands at 0) t);
+              any-intro (eqb key) (h .held at t) (eq-eqb key _ (sym same)) ∙ sym (lt-ltb 0 (getD commands at 0) t);
         }
 
   -- a slot is free, so the key is not there

@@ -20,7 +20,8 @@ use Rattle.sheet.specs.declared.judge.Judged.the-variants.{Fine, Faulty}
 use Rattle.sheet.specs.Refusal.{numberOf}
 use Rattle.sheet.specs.Record.{byte, recordAt, bodyAt}
 use Rattle.sheet.specs.Model.{Move, Model, moveCount, moveOf, withMachine, withMove}
-use Rattle.sheet.specs.Faults.{wrongMoveLength, badMove, sameMove, badCommand, machineFaults, moveFaults, endFaults, faultsOf}
+use Rattle.sheet.specs.Faults.{wrongMoveLength, badMove, sameMove, badCommand}
+use Rattle.sheet.specs.Faults.{machineFaults, moveFaults, endFaults, faultsOf}
 use Rattle.sheet.specs.Parse.{Parsed, more, ended, extended, turnAt, turnOf}
 use Rattle.sheet.specs.Kept.Held.{fine, judgedOf, ownMoveFaults, ownFaults}
 use Rattle.sheet.proofs.Records.{whole-starts, whole-within, body-part, part-length}
@@ -57,7 +58,13 @@ own-fits m at body c =
     let a : ltb (length body) 4 ≡ false = search parts in
     let b : ltb 20 (length body) ≡ false = search parts in
     let e : leb 250 (moveCount m) ≡ false = search parts in
-    record { long = ltb-false _ _ a; short = ltb-false _ _ b; room = leb-false _ _ e; right = c .1 .1 .0; command-given = eqb-false (byte body 3) 0 (c .1 .1 .1 .1 .0) }
+    record {
+      long = ltb-false _ _ a;
+      short = ltb-false _ _ b;
+      room = leb-false _ _ e;
+      right = c .1 .1 .0;
+      command-given = eqb-false (byte body 3) 0 (c .1 .1 .1 .1 .0);
+    }
 
 -- the record at a place
 module _ (s : List ℕ) (at : ℕ) (d : Parsed) {r : Record} {kind start len : ℕ} {body : List ℕ}

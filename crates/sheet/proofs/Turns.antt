@@ -129,7 +129,9 @@ module _ (s : List ℕ) (at : ℕ) (d : Parsed) (kind start len : ℕ) where
       ⊎-elim inl
       (λ c.
       by-cases (eqb kind 3)
-      (λ t. inr (record { clear = c .0; is-end = t; caused = refused-cause (bytesBehind s (start + len)) _ (rw t at (c .1)) }))
+      (λ t.
+      let caused = refused-cause (bytesBehind s (start + len)) _ (rw t at (c .1)) in
+      inr (record { clear = c .0; is-end = t; caused = caused }))
       (λ f. absurd (given-not-refused (rw f at (c .1)))))
       (refused-ways faults _ q)
 

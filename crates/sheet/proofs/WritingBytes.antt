@@ -28,7 +28,8 @@ module _ (s p q : List ℕ) (at a : ℕ) (first : p ≡ written at (twoBytes a) 
 
 -- a record, its body behind its header
 pub record-written : (s p q body : List ℕ) (at kind next : ℕ)
-    → p ≡ written at (twoBytes (length body) ++ twoBytes kind) s → q ≡ written next body p → next ≡ at + 4 → at ≤ length s → q ≡ written at (recordOf kind body) s
+    → p ≡ written at (twoBytes (length body) ++ twoBytes kind) s → q ≡ written next body p → next ≡ at + 4
+    → at ≤ length s → q ≡ written at (recordOf kind body) s
 unfolding recordOf
 record-written s p q body at kind next first second e room =
     let header = twoBytes (length body) ++ twoBytes kind in

@@ -31,34 +31,19 @@ shared-slice-read-if1 : tie.Need-shared-slice-read-if1
 shared-slice-read-if1 c = search needs
 
 returns : tie.Need-returns
-returns c =
-    wrong-guard-own _ _ _ (c .before .before .before .before .before .before .before .before .pre)
-    (c .before .before .before .wide .ensures .0) (c .before .before .byte-at .ensures) (c .if1 .taken)
+returns c = search wrong-guard-own
 
 not-rising-requires : tie.Need-not-rising-requires
 not-rising-requires c κs = search needs
 
 returns-2 : tie.Need-returns-2
-returns-2 c =
-    wrong-guard-falls _ _ _ (c .before .before .before .before .before .before .before .before .before .before .pre)
-    (c .before .before .before .before .before .wide .ensures .0) (c .before .before .before .before .byte-at .ensures)
-    (c .before .before .if1 .left) (c .before .not-rising .ensures) (c .if2 .taken)
+returns-2 c = search wrong-guard-falls
 
 returns-3 : tie.Need-returns-3
-returns-3 c =
-    wrong-guard-empty _ _ _
-    (c .before .before .before .before .before .before .before .before .before .before .before .pre)
-    (c .before .before .before .before .before .before .wide .ensures .0)
-    (c .before .before .before .before .before .byte-at .ensures) (c .before .before .before .if1 .left)
-    (c .before .before .not-rising .ensures) (c .before .if2 .left) (c .if3 .taken)
+returns-3 c = search wrong-guard-empty
 
 returns-4 : tie.Need-returns-4
-returns-4 c =
-    wrong-guard-rest _ _ _
-    (c .before .before .before .before .before .before .before .before .before .before .before .pre)
-    (c .before .before .before .before .before .before .wide .ensures .0)
-    (c .before .before .before .before .before .byte-at .ensures) (c .before .before .before .if1 .left)
-    (c .before .before .not-rising .ensures) (c .before .if2 .left) (c .if3 .left)
+returns-4 c = search wrong-guard-rest
 
 pub bad-guard-spec : {M : Type 1} → statement M
 bad-guard-spec =

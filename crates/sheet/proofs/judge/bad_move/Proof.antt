@@ -10,7 +10,7 @@ shared-slice-read-to : tie.Need-shared-slice-read-to
 shared-slice-read-to c = search needs
 
 returns : tie.Need-returns
-returns c = dead-stays _ _ (c .if1 .taken)
+returns c = search dead-stays
 
 shared-slice-read-wide : tie.Need-shared-slice-read-wide
 shared-slice-read-wide c = search needs
@@ -28,15 +28,10 @@ has-mode-requires-2 : tie.Need-has-mode-requires-2
 has-mode-requires-2 c κs = search needs
 
 returns-2 : tie.Need-returns-2
-returns-2 c =
-    dead-rest _ _ (c .before .before .before .before .before .before .if1 .left)
-    (c .before .before .before .before .wide .ensures .0) (c .before .before .before .byte-at .ensures)
-    (c .before .before .has-mode .ensures) (c .before .if2 .taken) (c .has-mode2 .ensures)
+returns-2 c = search dead-rest
 
 returns-3 : tie.Need-returns-3
-returns-3 c =
-    dead-failed _ _ (c .before .before .before .before .before .if1 .left) (c .before .before .before .wide .ensures .0)
-    (c .before .before .byte-at .ensures) (c .before .has-mode .ensures) (c .if2 .left)
+returns-3 c = search dead-failed
 
 pub bad-move-spec : {M : Type 1} → statement M
 bad-move-spec =

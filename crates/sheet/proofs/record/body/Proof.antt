@@ -17,10 +17,13 @@ slice-aggregate-result : tie.Need-slice-aggregate-result
 slice-aggregate-result c = search needs
 
 returns : tie.Need-returns
-returns c = body-none _ _ (c .before .before .before .record-at .ensures) (c .before .enum-told .given .1)
+returns c = search body-none
+
+part-result-end : tie.Need-part-result-end
+part-result-end c = search whole-within
 
 add-end : tie.Need-add-end
-add-end c = omega (arith, whole-within _ _ (c .before .before .before .record-at .ensures) (c .before .start .given .1))
+add-end c = omega (arith, part-result-end c)
 
 sub-result : tie.Need-sub-result
 sub-result c = search needs
@@ -28,11 +31,8 @@ sub-result c = search needs
 part-result-start : tie.Need-part-result-start
 part-result-start c = search needs
 
-part-result-end : tie.Need-part-result-end
-part-result-end c = whole-within _ _ (c .before .before .before .record-at .ensures) (c .before .start .given .1)
-
 returns-2 : tie.Need-returns-2
-returns-2 c = body-whole _ _ (c .before .before .before .before .record-at .ensures) (c .before .before .start .given .1)
+returns-2 c = search body-whole
 
 pub body-spec : {M : Type 1} → statement M
 body-spec =

@@ -4,6 +4,13 @@ use Rattle.sheet.proofs.Slots.{added-not, added-new}
 use Rattle.sheet.proofs.sent.added.Statement.{statement}
 use Rattle.sheet.proofs.sent.added.Tie as tie
 
+-- the places before the search
+abbrev at-pair : tie.After-find → tie.After-pair-of
+at-pair c = c .before .before .before .before
+
+abbrev start : tie.After-find → tie.Start
+start c = at-pair c .before .before .before .before
+
 pair-of-requires : tie.Need-pair-of-requires
 pair-of-requires c κs = search needs
 
@@ -15,8 +22,9 @@ find-requires c κs = search needs
 
 slice-read-if1 : tie.Need-slice-read-if1
 slice-read-if1 c =
-    let table = c .before .before .before .before .before .before .before .before .before .pre .0 .1 in
-    omega (arith, c .before .find .ensures _ table .inside, table .commands-long)
+    let at-find = c .before in
+    let table = start at-find .pre .0 .1 in
+    omega (arith, at-find .find .ensures _ table .inside, table .commands-long)
 
 same-length : tie.Need-same-length
 same-length c = search needs
@@ -25,19 +33,21 @@ same-length-2 : tie.Need-same-length-2
 same-length-2 c = search needs
 
 returns : tie.Need-returns
-returns c = λ keys h room given.
-    added-not _ _ (c .before .before .before .before .before .before .pair-of .ensures) (c .before .before .find .ensures keys h)
-    (omega (arith, c .if1 .taken))
+returns c keys h room given =
+    let at-find = c .before .before in
+    added-not _ _ (at-pair at-find .pair-of .ensures) (at-find .find .ensures keys h) (omega (arith, c .if1 .taken))
 
 slice-write-pairs : tie.Need-slice-write-pairs
 slice-write-pairs c =
-    let table = c .before .before .before .before .before .before .before .before .before .before .pre .0 .1 in
-    omega (arith, c .before .before .find .ensures _ table .inside, table .pairs-long)
+    let at-find = c .before .before in
+    let table = start at-find .pre .0 .1 in
+    omega (arith, at-find .find .ensures _ table .inside, table .pairs-long)
 
 slice-write-commands : tie.Need-slice-write-commands
 slice-write-commands c =
-    let table = c .before .before .before .before .before .before .before .before .before .before .pre .0 .1 in
-    omega (arith, c .before .before .find .ensures _ table .inside, table .commands-long)
+    let at-find = c .before .before in
+    let table = start at-find .pre .0 .1 in
+    omega (arith, at-find .find .ensures _ table .inside, table .commands-long)
 
 same-length-3 : tie.Need-same-length-3
 same-length-3 c = search needs
@@ -46,9 +56,10 @@ same-length-4 : tie.Need-same-length-4
 same-length-4 c = search needs
 
 returns-2 : tie.Need-returns-2
-returns-2 c = λ keys h room given.
-    added-new _ _ (c .before .before .before .before .before .before .pair-of .ensures) h (c .before .before .find .ensures keys h)
-    (c .if1 .left) (omega (arith, given)) room
+returns-2 c keys h room given =
+    let at-find = c .before .before in
+    added-new _ _ (at-pair at-find .pair-of .ensures) h (at-find .find .ensures keys h) (c .if1 .left)
+    (omega (arith, given)) room
 
 pub added-spec : {M : Type 1} → statement M
 added-spec =

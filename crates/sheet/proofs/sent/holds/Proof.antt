@@ -12,10 +12,16 @@ shared-slice-read-result : tie.Need-shared-slice-read-result
 shared-slice-read-result c = search needs
 
 returns : tie.Need-returns
-returns c = same-command _ _ _ _ _ (omega (arith, c .before .before .shared-slice-known .given (c .before .before .before .args .at))) (omega arith) (c .before .if1 .taken) refl
+returns c =
+    let at-known = c .before .before in
+    same-command _ _ _ _ _ (omega (arith, at-known .shared-slice-known .given (at-known .before .args .at)))
+    (omega arith) (c .before .if1 .taken) refl
 
 returns-2 : tie.Need-returns-2
-returns-2 c = other-command _ _ _ _ _ (omega (arith, c .before .shared-slice-known .given (c .before .before .args .at))) (omega arith) (c .if1 .left)
+returns-2 c =
+    let at-known = c .before in
+    other-command _ _ _ _ _ (omega (arith, at-known .shared-slice-known .given (at-known .before .args .at)))
+    (omega arith) (c .if1 .left)
 
 pub holds-spec : {M : Type 1} → statement M
 holds-spec = tie.close (tie.spec shared-slice-read-if1 shared-slice-read-result returns returns-2)

@@ -28,7 +28,14 @@ cast-result c = search needs
 
 returns : tie.Need-returns
 unfolding keyOf moveOf
-returns c = omega (arith, c .before .before .wide .ensures .0, c .wide2 .ensures .0, c .before .before .before .before .shared-slice-known .given 3)
+returns c =
+    let at-first = c .before .before in
+    omega (
+      arith,
+      at-first .wide .ensures .0,
+      c .wide2 .ensures .0,
+      at-first .before .before .shared-slice-known .given 3,
+    )
 
 pub pair-of-spec : {M : Type 1} → statement M
 pair-of-spec =
