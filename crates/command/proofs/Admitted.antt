@@ -7,7 +7,8 @@ use mathlib.Core.Bool.{true}
 use Rattle.common.specs.Reply.{clear}
 use Rattle.sheet.specs.Model.{Model}
 use Rattle.sheet.specs.Valid.{Valid}
-use Rattle.plan.specs.Reading.{wellShaped, everyMove}
+use Rattle.plan.specs.Reading.{wellShaped}
+use Rattle.plan.specs.Shown.{usableIn}
 use Rattle.command.specs.State.{stateFaults}
 use Rattle.command.specs.Goal.{goalFaults, goalMasks}
 use Rattle.command.specs.Attainable.{coverFaults}
@@ -26,7 +27,7 @@ module _ (m : Model) (valid : Valid m) (plan : List ℕ) (shaped : wellShaped m 
       let fits = state-passes m state .1 (a .state-fits) in (
         fits,
         goal-passes m goal .1 (a .goal-fits),
-        covered-exactly m valid plan everyMove shaped small state (sound-state m state fits) _ .1 (a .covered),
+        covered-exactly m valid plan (usableIn m plan) shaped small state (sound-state m state fits) _ .1 (a .covered),
       )
 
   pub passes-admitted : clear (stateFaults m state) ≡ true → clear (goalFaults m goal) ≡ true
@@ -35,5 +36,5 @@ module _ (m : Model) (valid : Valid m) (plan : List ℕ) (shaped : wellShaped m 
       record {
         state-fits = state-passes m state .0 fits;
         goal-fits = goal-passes m goal .0 fine;
-        covered = covered-exactly m valid plan everyMove shaped small state (sound-state m state fits) _ .0 covers;
+        covered = covered-exactly m valid plan (usableIn m plan) shaped small state (sound-state m state fits) _ .0 covers;
       }

@@ -14,7 +14,8 @@ use Rattle.common.proofs.Clear.{each-clear}
 use Rattle.sheet.specs.Model.{machineCount, moveAt}
 use Rattle.sheet.specs.Valid.{Valid}
 use Rattle.sheet.specs.Parse.{Parsed, parse}
-use Rattle.plan.specs.Reading.{boundIn, everyMove}
+use Rattle.plan.specs.Reading.{boundIn}
+use Rattle.plan.specs.Shown.{usableIn}
 use Rattle.command.specs.State.{modeOf, withMode}
 use Rattle.command.specs.Goal.{goalFaults}
 use Rattle.command.specs.Goal.{goalMasks}
@@ -43,23 +44,23 @@ use Rattle.command.proofs.Kept.{count, RunLaws, Pends, Kept, toCome-bou
 pub record Ground (lent : Lent) (d : Parsed) (Usable : ℕ → Type 0) (longest cost : ℕ → ℕ) : Type 0 where
   pub parsed : parse (lent .sheet) ≡ given d
   pub valid : Valid (d .model)
-  pub laws : RunLaws (d .model) (lent .plan) everyMove (Safe (d .model) (lent .plan)) Usable longest cost
+  pub laws : RunLaws (d .model) (lent .plan) (usableIn (d .model) (lent .plan)) (Safe (d .model) (lent .plan)) Usable longest cost
   pub fine : clear (goalFaults (d .model) (lent .goal)) ≡ true
 
 -- what a run keeps, by the causes of next command
 abbrev pub KeptFor : Lent → Parsed → (ℕ → Type 0) → (ℕ → ℕ) → Situation → Type 0
-KeptFor lent d Usable cost = Kept (d .model) lent everyMove (Safe (d .model) (lent .plan)) Usable cost
+KeptFor lent d Usable cost = Kept (d .model) lent (usableIn (d .model) (lent .plan)) (Safe (d .model) (lent .plan)) Usable cost
 
 module _ {lent : Lent} {d : Parsed} {Usable : ℕ → Type 0} {longest cost : ℕ → ℕ}
     (ground : Ground lent d Usable longest cost) where
   -- the caller's goal is covered exactly where 16 to 18 pass
   covers : (state : List ℕ) → Sound (d .model) state
       → (clear (coverFaults (d .model) (lent .plan) state (goalMasks (d .model) (lent .goal))) ≡ true)
-      ↔ Covered (d .model) (lent .plan) everyMove (Attains (d .model) (lent .plan)) (Safe (d .model) (lent .plan))
+      ↔ Covered (d .model) (lent .plan) (usableIn (d .model) (lent .plan)) (Attains (d .model) (lent .plan)) (Safe (d .model) (lent .plan))
       (goalMasks (d .model) (lent .goal)) state (count (d .model) lent)
   covers state sound =
       let tables = ground .laws .tables in
-      Facts.covered-exactly (d .model) (ground .valid) (lent .plan) everyMove (tables .shaped) (tables .byte-entries) state sound _
+      Facts.covered-exactly (d .model) (ground .valid) (lent .plan) (usableIn (d .model) (lent .plan)) (tables .shaped) (tables .byte-entries) state sound _
 
   -- a run begins kept
   pub kept-begins : (state : List ℕ) → Admitted (d .model) (lent .plan) state (lent .goal)

@@ -8,7 +8,8 @@ use native.Mathlib.Omega.{arith}
 use Rattle.common.specs.Reply.{given}
 use Rattle.sheet.specs.Valid.{Valid}
 use Rattle.sheet.specs.Parse.{Parsed, parse}
-use Rattle.plan.specs.Reading.{boundIn, everyMove}
+use Rattle.plan.specs.Reading.{boundIn}
+use Rattle.plan.specs.Shown.{usableIn}
 use Rattle.plan.specs.Laws.{PlanLaws}
 use Rattle.command.specs.State.{tagOf}
 use Rattle.command.specs.Covered.{Admitted}
@@ -86,7 +87,7 @@ module _ {lent : Lent} {d : Parsed} {Usable : ℕ → Type 0} {longest cost : �
 pub arrival-of-laws :
     (lent : Lent) (state : List ℕ) (d : Parsed) (Usable : ℕ → Type 0) (longest cost : ℕ → ℕ)
     → parse (lent .sheet) ≡ given d → Valid (d .model)
-    → PlanLaws (d .model) (lent .plan) everyMove Usable longest cost
+    → PlanLaws (d .model) (lent .plan) (usableIn (d .model) (lent .plan)) Usable longest cost
     → Admitted (d .model) (lent .plan) state (lent .goal)
     → (calls : List Call) → Run lent (begins state) calls
     → Promise lent (d .model) (begins state) calls

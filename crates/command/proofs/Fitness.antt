@@ -11,45 +11,54 @@ use Rattle.common.proofs.Bools.{or-left, or-right, or-false-left, or-false-righ
 use Rattle.common.proofs.Lists.{all-at, all-intro, all-fails}
 use Rattle.common.proofs.When.{when-known, unless-known, all-when-intro}
 use Rattle.sheet.specs.Model.{Move, Model, moveAt}
+use Rattle.sheet.specs.Valid.{Valid}
 use Rattle.plan.specs.Groups.{groupOf}
 use Rattle.plan.specs.Table.{Entry}
+use Rattle.plan.specs.Shown.{usableIn}
+use Rattle.plan.specs.Reading.{wellShaped}
+use Rattle.plan.proofs.Shown.{usable-shown}
 use Rattle.command.specs.Attainable.{groups}
-use Rattle.command.specs.Next.{holdsInside, holdsOutside, unfit}
+use Rattle.command.specs.Next.{holdsInside, holdsOutside, unfit, unfitWith}
 use Rattle.command.specs.Method.{Fit, Ready, Waits}
 use Rattle.command.proofs.Following
 
-none-of-five : (a b c d e : Bool) → a || b || c || d || e ≡ false
-    → (a ≡ false) × (b ≡ false) × (c ≡ false) × (d ≡ false) × (e ≡ false)
-none-of-five a b c d e h =
-    let four = or-false-left (a || b || c || d) e h in
+pub none-of-six : (a b c d e f : Bool) → a || b || c || d || e || f ≡ false
+    → (a ≡ false) × (b ≡ false) × (c ≡ false) × (d ≡ false) × (e ≡ false) × (f ≡ false)
+none-of-six a b c d e f h =
+    let five = or-false-left (a || b || c || d || e) f h in
+    let four = or-false-left (a || b || c || d) e five in
     let three = or-false-left (a || b || c) d four in
     let two = or-false-left (a || b) c three in (
       or-false-left a b two,
       or-false-right a b two,
       or-false-right (a || b) c three,
       or-false-right (a || b || c) d four,
-      or-false-right (a || b || c || d) e h,
+      or-false-right (a || b || c || d) e five,
+      or-false-right (a || b || c || d || e) f h,
     )
 
-module _ (m : Model) (plan state : List ℕ) (k : ℕ) where
+module _ (m : Model) (valid : Valid m) (plan : List ℕ) (shaped : wellShaped m plan ≡ true) (state : List ℕ) (k : ℕ) where
   pub fit-test : {e : Entry} → Fit m plan state k e → unfit m plan state k e ≡ false
   unfolding holdsInside
   fit-test {e} f =
-      Following.fit m plan state k e (f .route) (f .listed) (f .own) (f .from-now)
+      Following.fit m plan state (usableIn m plan) k e (f .route) (f .listed) (f .own) (f .from-now)
       (all-when-intro _ _ (moveAt m (e .move) .guards) (λ g l i. f .inside g l (eqb-true _ _ i)))
+      (usable-shown m valid plan shaped (e .move) (f .listed) .1 (f .usable))
 
   pub test-fit : {e : Entry} → unfit m plan state k e ≡ false → Fit m plan state k e
-  unfolding unfit holdsInside
+  unfolding unfitWith holdsInside
   test-fit {e} f =
-      let (far, past, foreign, elsewhere, held) = none-of-five _ _ _ _ _ f in
+      let (far, past, foreign, elsewhere, held, idle) = none-of-six _ _ _ _ _ _ f in
       record {
         route = eqb-false _ _ far;
         listed = leb-false _ _ past;
         own = eqb-true _ _ (not-false _ foreign);
         from-now = eqb-true _ _ (not-false _ elsewhere);
         inside = λ g l i. when-known (eq-eqb _ _ i) (all-at _ (not-false _ held) l);
+        usable = usable-shown m valid plan shaped (e .move) (leb-false _ _ past) .0 (not-false _ idle);
       }
 
+module _ (m : Model) (plan state : List ℕ) (k : ℕ) where
   pub ready-test : (v : Move) → Ready m plan state k v → holdsOutside m plan state k v ≡ true
   unfolding holdsOutside
   ready-test v r =

@@ -4,7 +4,7 @@ use Prim.Native.Nat.{ℕ, suc, _≤_, _<_}
 use mathlib.Core.Path.{_≡_, refl, ap, ap₂}
 use mathlib.Core.Logic.{⊎-elim}
 use mathlib.Core.List.{List}
-use mathlib.Core.Bool.{true, false, not, _&&_, _||_}
+use mathlib.Core.Bool.{Bool, true, false, not, _&&_, _||_}
 use borrow.Author.Tests.{leb-true, le-leb, lt-leb, eq-eqb, ne-eqb}
 use lib.Dec.{leb}
 use Rattle.common.specs.Lists.{upTo, all, any, find}
@@ -24,7 +24,7 @@ use Rattle.command.specs.State.{modeOf}
 use Rattle.command.specs.Goal.{Masks, guardMasks, met, allowed}
 use Rattle.command.specs.Attainable.{groups, present}
 use Rattle.command.specs.Next.{Next, done, command, distanceTo, nearest, targetOf, holdsInside, holdsOutside}
-use Rattle.command.specs.Next.{unfit, prepareBy, followBy, fulfil}
+use Rattle.command.specs.Next.{unfitWith, prepareBy, followWith, fulfilWith}
 
 -- a group in the same mode has the same target and follows the same entry
 module _ (m : Model) (plan state state′ : List ℕ) (masks : Masks) (k : ℕ)
@@ -78,22 +78,6 @@ module _ (m : Model) (plan state : List ℕ) where
         (λ l. leb-true _ _ l)
         (or-cases _ _ (all-at _ all-farther (upTo-mem below)))
 
-  -- The turns
-
-  pub fulfil-none : (masks : Masks) → fulfil m plan state masks 0 ≡ given done
-  unfolding fulfil
-  fulfil-none masks = refl
-
-  pub fulfil-met : (masks : Masks) (k : ℕ) → met (groups m plan) masks state k ≡ true
-      → fulfil m plan state masks (suc k) ≡ fulfil m plan state masks k
-  unfolding fulfil
-  fulfil-met masks k e = rw e
-
-  pub fulfil-unmet : (masks : Masks) (k : ℕ) → met (groups m plan) masks state k ≡ false
-      → fulfil m plan state masks (suc k) ≡ followBy m plan state (λ needs. fulfil m plan state needs k) masks k
-  unfolding fulfil
-  fulfil-unmet masks k e = rw e
-
   -- the first move of the entry toward the target
   abbrev pub firstMove : Masks → ℕ → ℕ
   firstMove masks k = entryAt m plan k (present m plan state k) (targetOf m plan state masks k) .move
@@ -101,18 +85,6 @@ module _ (m : Model) (plan state : List ℕ) where
   -- its needs, taken as a goal
   abbrev pub needsOf : Masks → ℕ → Masks
   needsOf masks k = guardMasks m (groups m plan) k (moveAt m (firstMove masks k))
-
-  pub follow-fit : (next : Masks → Reply Next) (masks : Masks) (k : ℕ)
-      → unfit m plan state k (entryAt m plan k (present m plan state k) (targetOf m plan state masks k)) ≡ false
-      → followBy m plan state next masks k ≡ prepareBy m plan state next k (moveAt m (firstMove masks k))
-  unfolding followBy unless
-  follow-fit next masks k e = rw e
-
-  pub follow-unfit : (next : Masks → Reply Next) (masks : Masks) (k : ℕ)
-      → unfit m plan state k (entryAt m plan k (present m plan state k) (targetOf m plan state masks k)) ≡ true
-      → followBy m plan state next masks k ≡ refused 15 0
-  unfolding followBy unless
-  follow-unfit next masks k e = rw e
 
   pub prepare-sends : (next : Masks → Reply Next) (k : ℕ) (v : Move) → holdsOutside m plan state k v ≡ true
       → prepareBy m plan state next k v ≡ given (command (v .machine) (v .command))
@@ -124,16 +96,46 @@ module _ (m : Model) (plan state : List ℕ) where
   unfolding prepareBy
   prepare-asks next k v e = rw e
 
+-- The turns, by a test of the moves that count
+module _ (m : Model) (plan state : List ℕ) (counts : ℕ → Bool) where
+  pub fulfil-none : (masks : Masks) → fulfilWith m plan state counts masks 0 ≡ given done
+  unfolding fulfilWith
+  fulfil-none masks = refl
+
+  pub fulfil-met : (masks : Masks) (k : ℕ) → met (groups m plan) masks state k ≡ true
+      → fulfilWith m plan state counts masks (suc k) ≡ fulfilWith m plan state counts masks k
+  unfolding fulfilWith
+  fulfil-met masks k e = rw e
+
+  pub fulfil-unmet : (masks : Masks) (k : ℕ) → met (groups m plan) masks state k ≡ false
+      → fulfilWith m plan state counts masks (suc k) ≡ followWith m plan state counts (λ needs. fulfilWith m plan state counts needs k) masks k
+  unfolding fulfilWith
+  fulfil-unmet masks k e = rw e
+
+  pub follow-fit : (next : Masks → Reply Next) (masks : Masks) (k : ℕ)
+      → unfitWith m plan state counts k (entryAt m plan k (present m plan state k) (targetOf m plan state masks k)) ≡ false
+      → followWith m plan state counts next masks k ≡ prepareBy m plan state next k (moveAt m (firstMove m plan state masks k))
+  unfolding followWith unless
+  follow-fit next masks k e = rw e
+
+  pub follow-unfit : (next : Masks → Reply Next) (masks : Masks) (k : ℕ)
+      → unfitWith m plan state counts k (entryAt m plan k (present m plan state k) (targetOf m plan state masks k)) ≡ true
+      → followWith m plan state counts next masks k ≡ refused 15 0
+  unfolding followWith unless
+  follow-unfit next masks k e = rw e
+
   pub fit : (k : ℕ) (e : Entry) → (e .distance ≡ 255 → ⊥) → e .move < moveCount m
       → groupOf (groups m plan) (moveAt m (e .move) .machine) ≡ k
       → modeOf state (moveAt m (e .move) .machine) ≡ moveAt m (e .move) .from
-      → holdsInside m plan state k (moveAt m (e .move)) ≡ true → unfit m plan state k e ≡ false
-  unfolding unfit
-  fit k e far here own from inside =
+      → holdsInside m plan state k (moveAt m (e .move)) ≡ true → counts (e .move) ≡ true → unfitWith m plan state counts k e ≡ false
+  unfolding unfitWith
+  fit k e far here own from inside known =
       or-false-intro
+      (or-false-intro
       (or-false-intro
       (or-false-intro
       (or-false-intro (ne-eqb (e .distance) 255 far) (lt-leb _ _ here))
       (not-of-true (eq-eqb _ _ own)))
       (not-of-true (eq-eqb _ _ from)))
-      (not-of-true inside)
+      (not-of-true inside))
+      (not-of-true known)

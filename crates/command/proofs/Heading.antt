@@ -17,7 +17,7 @@ use Rattle.command.specs.Goal.{Masks, guardMasks, met, allowed}
 use Rattle.command.specs.Ancestors.{upstreamIn}
 use Rattle.command.specs.Attainable.{groups, present, liveGroup}
 use Rattle.command.specs.Covered.{Covered, Attains}
-use Rattle.command.specs.Next.{targetOf, unfit}
+use Rattle.command.specs.Next.{targetOf, unfitWith}
 use Rattle.command.proofs.Facts
 use Rattle.command.proofs.Facts.{Sound}
 use Rattle.command.proofs.Safe.{SafeLaws}
@@ -100,14 +100,15 @@ module _ {m : Model} {plan : List ℕ} {counts : ℕ → Bool} {Usable : ℕ →
 
   -- an entry toward the target is fit to be followed
   pub heading-fits : (masks : Masks) (k : ℕ) → Heading m plan Usable state masks k
-      → unfit m plan state k (entryAt m plan k (present m plan state k) (targetOf m plan state masks k)) ≡ false
+      → unfitWith m plan state counts k (entryAt m plan k (present m plan state k) (targetOf m plan state masks k)) ≡ false
   heading-fits masks k h =
-      Following.fit m plan state k (entryAt m plan k (present m plan state k) (targetOf m plan state masks k))
+      Following.fit m plan state counts k (entryAt m plan k (present m plan state k) (targetOf m plan state masks k))
       (omega (arith, h .far))
       (moves-below m (groupsIn m plan) k (h .member))
       (moves-group m (groupsIn m plan) k (h .member))
       (Facts.leading-from m valid plan (tables .shaped) k _ (h .member) state sound (h .leading))
       (Facts.leading-inside m valid plan (tables .shaped) k _ (h .member) state sound (h .leading))
+      (tables .usable-counts _ (moves-below m (groupsIn m plan) k (h .member)) (h .usable))
 
   -- the needs of a move of group k, taken as a goal
   module _ (k v : ℕ) (member : List·Memᴰ v (movesOf m (groups m plan) k)) where

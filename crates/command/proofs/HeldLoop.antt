@@ -15,11 +15,12 @@ use Rattle.sets.proofs.Laws.{bit-none}
 use Rattle.sheet.specs.Record.{byte}
 use Rattle.sheet.specs.Model.{Model, moveOf}
 use Rattle.sheet.specs.Valid.{ValidMove}
+use Rattle.sheet.proofs.Guards.{guard-count, guard-here}
 use Rattle.plan.specs.Groups.{groupOf}
 use Rattle.plan.specs.Reading.{groupsIn}
 use Rattle.command.specs.State.{modeOf}
 use Rattle.command.specs.Kept.Question.{Placed, HeldUp}
-use Rattle.command.proofs.Placing.{placed-number}
+use Rattle.command.proofs.Placing.{placed-number, placed-numbers}
 
 -- need n of a body is on group a, and fails
 abbrev pub failsOn : List ℕ → List ℕ → List ℕ → ℕ → ℕ → Bool
@@ -45,6 +46,14 @@ module _ {body state numbers : List ℕ} where
   held-none = record { passed = 0; place = refl; within = omega arith; bits = λ a. bit-none a }
 
   module _ {r at : ℕ} (k : HeldUpto body state numbers r at) (more : at + 1 < length body) where
+    -- the machine of the need that is next
+    pub held-there : {m : Model} {plan : List ℕ} → Placed m plan state numbers → ValidMove m (moveOf body)
+        → byte body at < length numbers
+    held-there p v =
+        let g = rw (guard-here body (k .passed) (omega (arith, k .place))) at
+        (v .guards-valid (k .passed) (rw guard-count (omega (arith, k .place)))) in
+        rw (k .place) (omega (arith, g .present, placed-numbers p))
+
     pub held-next : {own w mode t : ℕ} {b : Bool} → own ≡ groupOf numbers (byte body at) → w ≡ own
         → mode ≡ modeOf state (byte body at) → b ≡ bit (byte body (at + 1)) mode
         → ((a : ℕ) → bit t a ≡ (bit r a || (not b && eqb w a))) → HeldUpto body state numbers t (at + 2)

@@ -8,10 +8,12 @@ pub mod Answers
 pub mod Applying
 pub mod Arrival
 pub mod Asking
+pub mod Before
 pub mod Calls
 pub mod Causes
 pub mod Changes
 pub mod CoverLoop
+pub mod CoverSets
 pub mod Covers
 pub mod Facts
 pub mod Fall

@@ -20,13 +20,14 @@ use Rattle.sheet.specs.Parse.{parse}
 use Rattle.sheet.proofs.Parsed.{parse-valid}
 use Rattle.sheet.proofs.Place.{Near, refusal-near}
 use Rattle.plan.specs.Groups.{smallestMember}
-use Rattle.plan.specs.Reading.{groupsIn, everyMove}
+use Rattle.plan.specs.Reading.{groupsIn}
+use Rattle.plan.specs.Shown.{usableIn}
 use Rattle.plan.proofs.GroupLoops.{smallest-inside}
 use Rattle.command.specs.State.{badPair, stateFaults}
 use Rattle.command.specs.Goal.{badByte, goalFaults}
 use Rattle.command.specs.Goal.{Masks, goalMasks, met}
 use Rattle.command.specs.Attainable.{groups, deadEnd, faultOf, groupFaults, attainFaults, coverFaults}
-use Rattle.command.specs.Next.{Next, holdsOutside, prepareBy, followBy, fulfil, goalRefusals, nextReply}
+use Rattle.command.specs.Next.{Next, holdsOutside, prepareBy, followBy, followWith, fulfil, fulfilWith, goalRefusals, nextReply}
 use Rattle.command.specs.Apply.{applyReply}
 use Rattle.command.proofs.Refusals.{causesOf}
 
@@ -70,11 +71,11 @@ module _ (m : Model) (plan state : List ℕ) where
 
   follow-near : (lower : Masks → Reply Next) (masks : Masks) (k : ℕ) → ((needs : Masks) → NearReply (lower needs))
       → NearReply (followBy m plan state lower masks k)
-  unfolding followBy
+  unfolding followWith
   follow-near lower masks k h = first-near _ _ [] (omega arith) (λ n. none-near _ (prepare-near lower k _ h))
 
   fulfil-near : (masks : Masks) (n : ℕ) → NearReply (fulfil m plan state masks n)
-  unfolding fulfil
+  unfolding fulfilWith
   fulfil-near masks zero = tt
   fulfil-near masks (suc k) =
       by-cases (met (groups m plan) masks state k)
@@ -103,19 +104,19 @@ module _ (m : Model) (valid : Valid m) where
         let few : length (groups m plan) ≤ machineCount m = simp (length-take, length-drop) (omega arith) in
         omega (arith, smallest-inside (groups m plan) k, valid .few-machines)
 
-    group-near : (k : ℕ) → Each NearFault (groupFaults m plan everyMove (deadEnd m plan) state masks k)
+    group-near : (k : ℕ) → Each NearFault (groupFaults m plan (usableIn m plan) (deadEnd m plan) state masks k)
     unfolding groupFaults faultOf
     group-near k =
         (smallest-near 16 _ (omega arith), (smallest-near 17 k (omega arith), (smallest-near 18 _ (omega arith), tt)))
 
-    causes-near : (k : ℕ) → Each NearFault (causesOf m plan everyMove state masks k)
+    causes-near : (k : ℕ) → Each NearFault (causesOf m plan (usableIn m plan) state masks k)
     causes-near k = by-cases (met (groups m plan) masks state k) (λ t. rw t tt) (λ f. rw f (group-near k))
 
     attain-near : {A : Type 0} (r : Reply A) → NearReply r → (ks : List ℕ)
-        → NearReply (unless (flatMap (causesOf m plan everyMove state masks) ks) r)
+        → NearReply (unless (flatMap (causesOf m plan (usableIn m plan) state masks) ks) r)
     unfolding flatMap
     attain-near r h [] = none-near r h
-    attain-near r h (k ∷ ks) = each-near r (causesOf m plan everyMove state masks k) _ (causes-near k) (attain-near r h ks)
+    attain-near r h (k ∷ ks) = each-near r (causesOf m plan (usableIn m plan) state masks k) _ (causes-near k) (attain-near r h ks)
 
   refusals-near : {A : Type 0} (r : Reply A) (plan state goal : List ℕ) → NearReply r
       → NearReply (unless (goalRefusals m plan state goal) r)

@@ -11,31 +11,28 @@ use lib.Dec.{ltb}
 use lib.ListN.{length, getD, take, List·getD-eq-default}
 use lib.Seq.{take-at, getD-take, length-take-le}
 use Rattle.common.specs.Lists.{upTo, pad}
-use Rattle.common.specs.Reply.{given, fault, clear}
+use Rattle.common.specs.Reply.{clear}
 use Rattle.common.proofs.Bools.{by-cases}
 use Rattle.common.proofs.Members.{length-map-upTo, getD-map-upTo}
 use Rattle.common.proofs.Pad.{getD-pad, length-pad}
-use Rattle.common.proofs.Reply.{given-clear, andThen-given}
+use Rattle.sheet.specs.declared.index.Sheet.{Sheet}
 use Rattle.sheet.specs.Record.{part}
 use Rattle.sheet.specs.Model.{Model, machineCount, moveCount}
-use Rattle.sheet.specs.declared.refusal.Verdict.the-variants.{Accepted}
-use Rattle.sheet.specs.Parse.{Parsed, parse}
 use Rattle.sheet.specs.Index.{indexOf}
 use Rattle.sheet.specs.Valid.{Valid}
 use Rattle.sheet.proofs.Parsed.{parse-valid, parse-bodies}
 use Rattle.sheet.proofs.Indexed.{indexes-valid, indexes-machines, indexes-moves, indexes-modes, indexes-array}
 use Rattle.sheet.proofs.Indexed.{indexes-body}
-use Rattle.plan.specs.declared.opening.Outline.{Outline}
+use Rattle.plan.specs.declared.partition.Groups.{Groups}
+use Rattle.plan.specs.Bytes.{tableAt}
 use Rattle.plan.specs.Groups.{Grouping, groupOf, groupCount}
 use Rattle.plan.specs.Modes.{size, weight, modeNumber}
 use Rattle.plan.specs.Kept.Sizes.{capped, cappedSizes}
-use Rattle.plan.specs.Kept.Partition.{cappedWeights, Partitioned}
-use Rattle.plan.specs.Kept.ModeSets.{Weighed, Sized, ZeroSets}
+use Rattle.plan.specs.Kept.Partition.{cappedWeights, MemberSets, Partitioned}
+use Rattle.plan.specs.Kept.ModeSets.{Weighed, Sized, ZeroSets, ModesHeld}
+use Rattle.plan.specs.Kept.Showing.{Lives, LivesFrom}
 use Rattle.plan.specs.Promised.{SmallGroups}
 use Rattle.plan.specs.Reading.{groupsIn, wellShaped, everyMove}
-use Rattle.sheet.specs.Refusal.{verdictSays}
-use Rattle.plan.specs.Says.{shapeReply, outlineReply}
-use Rattle.plan.specs.Kept.Outline.{Outlined}
 use Rattle.plan.proofs.CappedSizes.{capped-small}
 use Rattle.plan.proofs.Counted.{counted-all}
 use Rattle.plan.proofs.DigitSets.{weight-small}
@@ -43,45 +40,28 @@ use Rattle.plan.proofs.LengthLaws.{size-kept}
 use Rattle.plan.proofs.MachineDigits.{machine-digit}
 use Rattle.plan.proofs.Named.{group-below-count}
 use Rattle.plan.proofs.ShapeTests.{shape-tests}
+use Rattle.plan.proofs.TableStarts.{starts-are}
 use Rattle.command.specs.State.{modes, stateFaults}
 use Rattle.command.specs.Goal.{Masks}
 use Rattle.command.specs.Kept.Question.{Allows, Opened, Listed, Placed, Kept, NamedBy, UnmetSet, KeptGoal}
 use Rattle.command.specs.Kept.Question.{numbersIn, weightsIn, sizeIn, presentIn}
 use Rattle.command.proofs.Shape.{groups-length, few-groups}
 
--- what `open` tells of a plan that is accepted
-pub opened-read : (file plan : List ℕ) (r : Outline) → verdictSays (r .verdict) ≡ outlineReply file plan
-    → ((d : Parsed) → parse file ≡ given d → wellShaped (d .model) plan ≡ true → Outlined (indexOf d) (d .model) plan r)
-    → r .verdict ≡ Accepted → (d : Parsed) × (parse file ≡ given d) × Opened (d .model) file plan r
-unfolding outlineReply
-opened-read file plan r says kept a =
-    let (d, read, passes) =
-    andThen-given (parse file) (λ d. shapeReply (d .model) plan) (sym says ∙ ap verdictSays a) in
-    let shaped = not-false _ (given-clear (fault 15 0 _ ∷ []) (given tt) passes .0) in
-    let k = kept d read shaped in (
-      d,
-      read,
-      record {
-        indexes = record { parsed = d; passes = read; index = k .sheet; model = refl };
-        shaped = shaped;
-        outlined = record { sheet = refl; groups = k .groups; starts = k .starts };
-      },
-    )
-
-module _ {m : Model} {file plan : List ℕ} {r : Outline} (o : Opened m file plan r) where
+module _ {m : Model} {file plan : List ℕ} {x : Sheet} {g : Groups} {starts : List ℕ}
+    (o : Opened m file plan x g starts) where
   abbrev own : Grouping
   own = groupsIn m plan
 
   abbrev count : ℕ
   count = groupCount (groupsIn m plan)
 
-  parts : Partitioned m own (r .groups)
+  parts : Partitioned m own g
   parts = o .outlined .groups
 
   opened-valid : Valid m
   opened-valid = indexes-valid (o .indexes)
 
-  opened-machines : r .sheet .machines ≡ machineCount m
+  opened-machines : x .machines ≡ machineCount m
   opened-machines = indexes-machines (o .indexes)
 
   long : length own ≡ machineCount m
@@ -90,7 +70,7 @@ module _ {m : Model} {file plan : List ℕ} {r : Outline} (o : Opened m file pla
   few-machines : length own ≤ 32
   few-machines = omega (arith, long, opened-valid .few-machines)
 
-  pub opened-few : r .sheet .machines ≤ 32
+  pub opened-few : x .machines ≤ 32
   opened-few = omega (arith, opened-machines, opened-valid .few-machines)
 
   few : count ≤ 32
@@ -100,7 +80,7 @@ module _ {m : Model} {file plan : List ℕ} {r : Outline} (o : Opened m file pla
   small = shape-tests m plan .0 (o .shaped) .small
 
   -- the mode counts, in an array of 32
-  pub opened-modes : (i : ℕ) → getD (r .sheet .modes) i 0 ≤ 8
+  pub opened-modes : (i : ℕ) → getD (x .modes) i 0 ≤ 8
   opened-modes i =
       by-cases (ltb i (machineCount m))
       (λ t.
@@ -112,16 +92,22 @@ module _ {m : Model} {file plan : List ℕ} {r : Outline} (o : Opened m file pla
         List·getD-eq-default (m .modes) 0 {n = i} (ltb-false i (machineCount m) f),
       ))
 
+  starts-placed : (k : ℕ) → k ≤ count → getD starts k 0 ≡ tableAt m own k
+  starts-placed = starts-are m own few small (parts .sizes) refl (rw (parts .count) at (o .outlined .places))
+
   -- the arrays of the groups
 
-  pub opened-within : r .sheet .machines ≤ length (r .groups .numbers)
+  pub opened-count : g .count ≤ 32
+  opened-count = omega (arith, parts .count, few)
+
+  pub opened-within : x .machines ≤ length (g .numbers)
   opened-within = omega (arith, opened-few, ap length (parts .numbers), length-pad 32 own few-machines)
 
-  sizes-length : length (r .groups .sizes) ≡ 32
+  sizes-length : length (g .sizes) ≡ 32
   unfolding cappedSizes
   sizes-length = ap length (parts .sizes) ∙ length-map-upTo (λ k. capped (size m own k)) 32
 
-  size-is : (k : ℕ) → k < count → getD (r .groups .sizes) k 0 ≡ size m own k
+  size-is : (k : ℕ) → k < count → getD (g .sizes) k 0 ≡ size m own k
   size-is k h = ap (λ l. getD l k 0) (parts .sizes) ∙ size-kept m own few small k h
 
   abbrev weigh : ℕ → ℕ
@@ -140,14 +126,14 @@ module _ {m : Model} {file plan : List ℕ} {r : Outline} (o : Opened m file pla
   exact : Weighed m own (map weigh (upTo (length own)))
   exact = weighed-by (omega (arith, length-map-upTo weigh (length own))) (λ i h. getD-map-upTo weigh 0 h)
 
-  weights-length : length (r .groups .weights) ≡ 32
+  weights-length : length (g .weights) ≡ 32
   unfolding cappedWeights
   weights-length =
       ap length (parts .weights)
       ∙ length-pad 32 (map (λ i. capped (weigh i)) (upTo (length own)))
       (omega (arith, few-machines, length-map-upTo (λ i. capped (weigh i)) (length own)))
 
-  weighed : Weighed m own (r .groups .weights)
+  weighed : Weighed m own (g .weights)
   unfolding cappedWeights
   weighed =
       weighed-by
@@ -158,7 +144,7 @@ module _ {m : Model} {file plan : List ℕ} {r : Outline} (o : Opened m file pla
       ∙ getD-map-upTo (λ j. capped (weigh j)) 0 h
       ∙ capped-small (weigh i) (omega (arith, weight-small (machine-digit exact h))))
 
-  sized : Sized m own (r .groups .sizes) (r .sheet .modes)
+  sized : Sized m own (g .sizes) (x .modes)
   sized =
       record {
         placed = λ i h. omega (arith, sizes-length, few, group-below-count own i h);
@@ -172,36 +158,39 @@ module _ {m : Model} {file plan : List ℕ} {r : Outline} (o : Opened m file pla
   -- the numbers that are lent, which are the groups
 
   abbrev lent : List ℕ
-  lent = take (r .sheet .machines) (r .groups .numbers)
+  lent = take (x .machines) (g .numbers)
 
-  opened-numbers : take (r .sheet .machines) (r .groups .numbers) ≡ groupsIn m plan
+  opened-numbers : take (x .machines) (g .numbers) ≡ groupsIn m plan
   unfolding pad
-  opened-numbers = ap (take (r .sheet .machines)) (parts .numbers) ∙ take-at own _ _ (long ∙ sym opened-machines)
+  opened-numbers = ap (take (x .machines)) (parts .numbers) ∙ take-at own _ _ (long ∙ sym opened-machines)
 
-  pub opened-lent : length (take (r .sheet .machines) (r .groups .numbers)) ≡ r .sheet .machines
+  pub opened-lent : length (take (x .machines) (g .numbers)) ≡ x .machines
   opened-lent = length-take-le _ _ opened-within
 
-  pub opened-below : (i : ℕ) → i < length (take (r .sheet .machines) (r .groups .numbers))
-      → getD (take (r .sheet .machines) (r .groups .numbers)) i 0 < 32
+  pub opened-below : (i : ℕ) → i < length (take (x .machines) (g .numbers))
+      → getD (take (x .machines) (g .numbers)) i 0 < 32
   opened-below i h =
       rw opened-numbers (omega (arith, group-below-count own i (rw opened-numbers at h), few))
 
-  pub opened-weighed : Weighed m (take (r .sheet .machines) (r .groups .numbers)) (r .groups .weights)
+  pub opened-weighed : Weighed m (take (x .machines) (g .numbers)) (g .weights)
   opened-weighed = rw opened-numbers weighed
 
-  pub opened-sized : Sized m (take (r .sheet .machines) (r .groups .numbers)) (r .groups .sizes) (r .sheet .modes)
+  pub opened-sized : Sized m (take (x .machines) (g .numbers)) (g .sizes) (x .modes)
   opened-sized = rw opened-numbers sized
 
   -- of the sheet
 
-  opened-live : r .sheet .live ≡ pad 32 (m .live)
+  opened-live : x .live ≡ pad 32 (m .live)
   unfolding indexOf
   opened-live = ap (λ y. y .live) (o .indexes .index) ∙ rw (o .indexes .model)
 
-  opened-named : NamedBy m plan everyMove (r .groups .named)
+  live-length : length (pad 32 (m .live)) ≡ 32
+  live-length = length-pad 32 (m .live) (omega (arith, opened-valid .same-length, opened-valid .few-machines))
+
+  opened-named : NamedBy m plan everyMove (g .named)
   opened-named = record { bits = λ k a h. rw counted-all (parts .named k a h) }
 
-  bodies-length : length (r .sheet .bodies) ≡ 250
+  bodies-length : length (x .bodies) ≡ 250
   unfolding indexOf
   bodies-length =
       let i = o .indexes in
@@ -209,13 +198,13 @@ module _ {m : Model} {file plan : List ℕ} {r : Outline} (o : Opened m file pla
       ∙ length-pad 250 (i .parsed .bodies)
       (omega (arith, parse-bodies file (i .passes), parse-valid file (i .passes) .few-moves))
 
-  pub opened-moves : r .sheet .moves ≤ length (r .sheet .bodies)
+  pub opened-moves : x .moves ≤ length (x .bodies)
   opened-moves = omega (arith, bodies-length, indexes-moves (o .indexes), opened-valid .few-moves)
 
-  pub opened-bodies : length (take (r .sheet .moves) (r .sheet .bodies)) ≡ r .sheet .moves
+  pub opened-bodies : length (take (x .moves) (x .bodies)) ≡ x .moves
   opened-bodies = length-take-le _ _ opened-moves
 
-  opened-listed : Listed m file (take (r .sheet .moves) (r .sheet .bodies))
+  opened-listed : Listed m file (take (x .moves) (x .bodies))
   opened-listed =
       record {
         one-each = opened-bodies ∙ indexes-moves (o .indexes);
@@ -225,58 +214,86 @@ module _ {m : Model} {file plan : List ℕ} {r : Outline} (o : Opened m file pla
       }
     where
       same : (v : ℕ) → v < moveCount m
-          → getD (take (r .sheet .moves) (r .sheet .bodies)) v 0 ≡ getD (r .sheet .bodies) v 0
-      same v h = getD-take (r .sheet .moves) _ v 0 (omega (arith, indexes-moves (o .indexes)))
+          → getD (take (x .moves) (x .bodies)) v 0 ≡ getD (x .bodies) v 0
+      same v h = getD-take (x .moves) _ v 0 (omega (arith, indexes-moves (o .indexes)))
+
+  pub opened-members : {machines : List ℕ} → MemberSets (take (x .machines) (g .numbers)) machines
+      → MemberSets (groupsIn m plan) machines
+  opened-members sets = rw opened-numbers at sets
+
+  -- what `put_lives` asks
+  pub opened-lives : {zeros machines : List ℕ}
+      → ((m : Model) → Weighed m (take (x .machines) (g .numbers)) (g .weights)
+      → Sized m (take (x .machines) (g .numbers)) (g .sizes) (x .modes)
+      → ZeroSets m (take (x .machines) (g .numbers)) zeros)
+      → MemberSets (groupsIn m plan) machines
+      → LivesFrom m (groupsIn m plan) (x .live) (g .weights) (g .sizes) machines (g .count) zeros
+  opened-lives at-zero sets =
+      record {
+        modes = record { weighed = weighed; at-zero = rw opened-numbers at (at-zero m opened-weighed opened-sized) };
+        lit-modes = record {
+          long = omega (arith, few-machines, ap length opened-live, live-length);
+          each = λ i h. ap (λ l. getD l i 0) opened-live ∙ getD-pad 32 (m .live) i;
+        };
+        members = sets;
+        sized = λ k h. size-is k (rw (parts .count) at h);
+      }
 
   -- a state that passes
 
   module _ (state : List ℕ) (passes : clear (stateFaults m state) ≡ true) where
-    pub opened-placed : Placed m plan state (take (r .sheet .machines) (r .groups .numbers))
+    pub opened-placed : Placed m plan state (take (x .machines) (g .numbers))
     opened-placed =
         record { valid = opened-valid; shaped = o .shaped; passes = passes; numbered = opened-numbers }
 
-    module _ (present facts : List ℕ) {zeros : List ℕ}
-        (at-zero : (m : Model) → Weighed m (take (r .sheet .machines) (r .groups .numbers)) (r .groups .weights)
-        → Sized m (take (r .sheet .machines) (r .groups .numbers)) (r .groups .sizes) (r .sheet .modes)
-        → ZeroSets m (take (r .sheet .machines) (r .groups .numbers)) zeros)
-        (here : (m : Model) → Weighed m (take (r .sheet .machines) (r .groups .numbers)) (r .groups .weights)
+    module _ (present facts machines : List ℕ) {zeros held : List ℕ}
+        (at-zero : (m : Model) → Weighed m (take (x .machines) (g .numbers)) (g .weights)
+        → Sized m (take (x .machines) (g .numbers)) (g .sizes) (x .modes)
+        → ZeroSets m (take (x .machines) (g .numbers)) zeros)
+        (sets : MemberSets (take (x .machines) (g .numbers)) machines)
+        (living : (m : Model) (groups : Grouping)
+        → LivesFrom m groups (x .live) (g .weights) (g .sizes) machines (g .count) zeros
+        → ModesHeld m groups (g .weights) held × Lives m groups (g .count) held)
+        (whole-sets : length held ≡ 64)
+        (here : (m : Model) → Weighed m (take (x .machines) (g .numbers)) (g .weights)
         → clear (stateFaults m state) ≡ true → (k : ℕ) → k < 32
-        → getD present k 0 ≡ modeNumber m (take (r .sheet .machines) (r .groups .numbers)) k (modes state))
-        (gathered : ((n : ℕ) → n ≤ 32 → numbersIn facts n ≡ numbersIn (r .groups .numbers) n)
-        × (weightsIn facts ≡ r .groups .weights)
-        × ((k : ℕ) → k < 32 → sizeIn facts k ≡ getD (r .groups .sizes) k 0)
+        → getD present k 0 ≡ modeNumber m (take (x .machines) (g .numbers)) k (modes state))
+        (gathered : ((n : ℕ) → n ≤ 32 → numbersIn facts n ≡ numbersIn (g .numbers) n)
+        × (weightsIn facts ≡ g .weights)
+        × ((k : ℕ) → k < 32 → sizeIn facts k ≡ getD (g .sizes) k 0)
         × ((k : ℕ) → k < 32 → presentIn facts k ≡ getD present k 0))
-        (whole : length facts ≡ 128) (tables : length (r .starts) ≡ 33) where
+        (whole : length facts ≡ 128) where
       numbers-are : numbersIn facts (machineCount m) ≡ own
       unfolding numbersIn part
       numbers-are = gathered .0 (machineCount m) (opened-valid .few-machines) ∙ rw (← opened-machines) opened-numbers
 
-      opened-kept : Kept m plan state facts zeros (r .starts)
+      opened-kept : Kept m plan state facts held starts
       opened-kept =
+          let (modes, lives) = living m own (opened-lives at-zero (opened-members sets)) in
           record {
             long = whole;
-            starts-long = tables;
+            starts-long = o .long;
+            sets-long = whole-sets;
             placed = rw (numbers-are, ← opened-numbers) opened-placed;
-            held = record {
-              weighed = rw (gathered .1) weighed;
-              at-zero = rw opened-numbers at (at-zero m opened-weighed opened-sized);
-            };
+            held = rw (gathered .1) modes;
+            lives = rw (parts .count) at lives;
             sizes = λ k h. gathered .2 k (omega (arith, few)) ∙ size-is k h;
             present-modes = λ k h.
                 gathered .3 k (omega (arith, few)) ∙ rw opened-numbers at (here m opened-weighed passes k (omega (arith, few)));
-            starts-at = λ k h. o .outlined .starts k (omega arith);
+            starts-at = λ k h. starts-placed k (omega arith);
           }
 
       pub opened-goal : {goal : Masks} {masks : List ℕ} {left : ℕ} → Allows m goal masks
-          → ((m : Model) (plan : List ℕ) (goal : Masks) → Placed m plan state (take (r .sheet .machines) (r .groups .numbers))
+          → ((m : Model) (plan : List ℕ) (goal : Masks) → Placed m plan state (take (x .machines) (g .numbers))
           → Allows m goal masks → UnmetSet m plan state goal left)
-          → KeptGoal m file plan state goal (take (r .sheet .moves) (r .sheet .bodies)) (r .starts) facts zeros
-          (r .groups .named) (r .sheet .live) masks left
+          → KeptGoal m file plan state goal (take (x .moves) (x .bodies)) starts facts held
+          (g .named) machines (x .live) masks left
       opened-goal {goal} allows unmet =
           record {
             kept = opened-kept;
             listed = opened-listed;
             naming = opened-named;
+            members = opened-members sets;
             lives = opened-live;
             allows = allows;
             leaves = unmet m plan goal opened-placed allows;

@@ -18,6 +18,7 @@ use Rattle.sheet.specs.Valid.{Valid}
 use Rattle.sheet.specs.Parse.{Parsed, parse}
 use Rattle.sheet.proofs.Parsed.{parse-valid}
 use Rattle.plan.specs.Groups.{groupOf}
+use Rattle.plan.specs.Shown.{usableIn}
 use Rattle.plan.specs.Reading.{groupsIn, wellShaped}
 use Rattle.command.specs.State.{modeOf, tagOf, stateFaults}
 use Rattle.command.specs.Goal.{Masks, goalFaults, goalMasks, met}
@@ -42,9 +43,9 @@ module _ (m : Model) (plan state : List ℕ) where
 
   pub fulfil-all-met : (masks : Masks) (n : ℕ) → ((k : ℕ) → k < n → met (groups m plan) masks state k ≡ true)
       → fulfil m plan state masks n ≡ given done
-  fulfil-all-met masks zero h = Following.fulfil-none m plan state masks
+  fulfil-all-met masks zero h = Following.fulfil-none m plan state (usableIn m plan) masks
   fulfil-all-met masks (suc n) h =
-      Following.fulfil-met m plan state masks n (h n (omega arith)) ∙ fulfil-all-met masks n (λ k l. h k (omega arith))
+      Following.fulfil-met m plan state (usableIn m plan) masks n (h n (omega arith)) ∙ fulfil-all-met masks n (λ k l. h k (omega arith))
 
   lowered : {masks : Masks} {n k : ℕ} → k < n → HighestUnmet m plan state masks (suc n) k
       → HighestUnmet m plan state masks n k
@@ -60,38 +61,39 @@ module _ (m : Model) (plan state : List ℕ) where
   fulfil-highest zero h = absurd (not-suc-le-zero (h .below))
   fulfil-highest {masks} (suc n) {k} h =
       ⊎-elim
-      (λ e. rw (← e) (Following.fulfil-unmet m plan state masks k (h .unmet)))
-      (λ l. Following.fulfil-met m plan state masks n (h .above-met n l (omega arith)) ∙ fulfil-highest n (lowered l h))
+      (λ e. rw (← e) (Following.fulfil-unmet m plan state (usableIn m plan) masks k (h .unmet)))
+      (λ l. Following.fulfil-met m plan state (usableIn m plan) masks n (h .above-met n l (omega arith)) ∙ fulfil-highest n (lowered l h))
       (last-or-below (h .below))
 
   -- and its entry toward its target is followed
-  module _ {masks : Masks} {n : ℕ} (k q : ℕ) (h : HighestUnmet m plan state masks n k)
-      (t : Target m plan state masks k q) where
+  module _ (valid : Valid m) (shaped : wellShaped m plan ≡ true) {masks : Masks} {n : ℕ} (k q : ℕ)
+      (h : HighestUnmet m plan state masks n k) (t : Target m plan state masks k q) where
     here : targetOf m plan state masks k ≡ q
     here = target-only m plan state masks k t
 
     fulfil-unfit : (Fit m plan state k (entryToward m plan state k q) → ⊥) → fulfil m plan state masks n ≡ refused 15 0
     fulfil-unfit f =
         fulfil-highest n h
-        ∙ Following.follow-unfit m plan state _ masks k
-        (rw here (true-of-not-false (λ u. f (test-fit m plan state k u))))
+        ∙ Following.follow-unfit m plan state (usableIn m plan) _ masks k
+        (rw here (true-of-not-false (λ u. f (test-fit m valid plan shaped state k u))))
 
     fulfil-fit : Fit m plan state k (entryToward m plan state k q)
         → fulfil m plan state masks n
         ≡ prepareBy m plan state (fulfilBelow k) k (moveToward m plan state k q)
     fulfil-fit f =
         fulfil-highest n h
-        ∙ Following.follow-fit m plan state _ masks k (rw here (fit-test m plan state k f))
+        ∙ Following.follow-fit m plan state (usableIn m plan) _ masks k (rw here (fit-test m valid plan shaped state k f))
         ∙ ap (λ x. prepareBy m plan state (fulfilBelow k) k (moveToward m plan state k x)) here
 
-  picks-replied : {masks : Masks} {n : ℕ} {p : Pick} → Picks m plan state masks n p
+  picks-replied : Valid m → wellShaped m plan ≡ true → {masks : Masks} {n : ℕ} {p : Pick} → Picks m plan state masks n p
       → fulfil m plan state masks n ≡ pickReply m p
-  picks-replied {masks} {n} (nothing-unmet h) = fulfil-all-met masks n h
-  picks-replied (held-up k q h t f) = fulfil-unfit k q h t f
-  picks-replied (sends k q h t f o) =
-      fulfil-fit k q h t f ∙ Following.prepare-sends m plan state _ k _ (ready-test m plan state k _ o)
-  picks-replied (prepares k q h t f w p) =
-      fulfil-fit k q h t f ∙ Following.prepare-asks m plan state _ k _ (waits-test m plan state k _ w) ∙ picks-replied p
+  picks-replied valid shaped {masks} {n} (nothing-unmet h) = fulfil-all-met masks n h
+  picks-replied valid shaped (held-up k q h t f) = fulfil-unfit valid shaped k q h t f
+  picks-replied valid shaped (sends k q h t f o) =
+      fulfil-fit valid shaped k q h t f ∙ Following.prepare-sends m plan state _ k _ (ready-test m plan state k _ o)
+  picks-replied valid shaped (prepares k q h t f w p) =
+      fulfil-fit valid shaped k q h t f ∙ Following.prepare-asks m plan state _ k _ (waits-test m plan state k _ w)
+      ∙ picks-replied valid shaped p
 
   -- Something is picked
 
@@ -128,9 +130,9 @@ module _ (m : Model) (plan state : List ℕ) where
         let h = highest masks k unmet in
         let t = target-right m plan state masks k (some .1) (some .2) in
         by-cases (unfit m plan state k (entryToward m plan state k q))
-        (λ u. (unfitEntry, held-up k q h t (λ f. true-false u (fit-test m plan state k f))))
+        (λ u. (unfitEntry, held-up k q h t (λ f. true-false u (fit-test m valid plan shaped state k f))))
         (λ u.
-        let f = test-fit m plan state k u in
+        let f = test-fit m valid plan shaped state k u in
         let v = moveToward m plan state k q in
         by-cases (holdsOutside m plan state k v)
         (λ o. (entryMove (entryToward m plan state k q .move), sends k q h t f (test-ready m plan state k v o)))
@@ -169,7 +171,7 @@ module _ (m : Model) (plan state : List ℕ) where
       }
   picked-starts (prepares k q h t f w p) = picked-starts p
 
-  module _ (valid : Valid m) where
+  module _ (valid : Valid m) (shaped : wellShaped m plan ≡ true) where
     -- and no other pick has the same reply
     same-reply : (p q : Pick) → OwnStarts p → OwnStarts q → pickReply m p ≡ pickReply m q → p ≡ q
     same-reply noneUnmet noneUnmet a b e = refl
@@ -189,17 +191,17 @@ module _ (m : Model) (plan state : List ℕ) where
 
     picks-one : {masks : Masks} {n : ℕ} {p q : Pick} → Picks m plan state masks n p → Picks m plan state masks n q → p ≡ q
     picks-one {masks} {n} {p} {q} a b =
-        same-reply p q (picked-starts a) (picked-starts b) (sym (picks-replied a) ∙ picks-replied b)
+        same-reply p q (picked-starts a) (picked-starts b) (sym (picks-replied valid shaped a) ∙ picks-replied valid shaped b)
 
     -- a command that is replied, and that a move answers, is picked by the entry that names this move
-    pub picks-move : wellShaped m plan ≡ true → (n : ℕ) (masks : Masks) → LeavesModes m masks → (v : ℕ)
+    pub picks-move : (n : ℕ) (masks : Masks) → LeavesModes m masks → (v : ℕ)
         → Answers m state (moveAt m v .machine) (moveAt m v .command) v
         → fulfil m plan state masks n ≡ given (command (moveAt m v .machine) (moveAt m v .command))
         → Picks m plan state masks n (entryMove v)
-    picks-move shaped n masks leaves v a e =
+    picks-move n masks leaves v a e =
         let (p, picks) = picks-some valid shaped n masks leaves in
         subst (Picks m plan state masks n)
-        (same-reply p (entryMove v) (picked-starts picks) starts (sym (picks-replied picks) ∙ e)) picks
+        (same-reply p (entryMove v) (picked-starts picks) starts (sym (picks-replied valid shaped picks) ∙ e)) picks
       where
         starts : Starts v
         starts = record { listed = a .there; from-now = a .its-from; answers = λ free. a }
@@ -216,10 +218,10 @@ module _ (sheet plan state goal : List ℕ) (d : Parsed) (parsed : parse sheet �
       record {
         pick = p;
         picked = picks;
-        alone = λ q h. picks-one m plan state valid h picks;
+        alone = λ q h. picks-one m plan state valid shaped h picks;
         replied =
             next-fulfils sheet plan state goal d parsed shaped state-good goal-good covers
-            ∙ picks-replied m plan state picks;
+            ∙ picks-replied m plan state valid shaped picks;
         answers = λ v h. picked-starts m plan state h .answers
             (picked-untagged m valid plan shaped state (sound-state m state state-good) _ covers v h);
       }

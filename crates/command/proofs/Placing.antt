@@ -12,12 +12,14 @@ use Rattle.common.specs.Lists.{pad}
 use Rattle.common.proofs.Bools.{by-cases}
 use Rattle.common.proofs.Pad.{length-pad}
 use Rattle.sheet.specs.Model.{Model, machineCount, modeCount}
+use Rattle.sheet.proofs.Records.{part-length, part-byte}
 use Rattle.plan.specs.Groups.{groupOf, groupCount}
 use Rattle.plan.specs.Reading.{groupsIn}
 use Rattle.plan.specs.Kept.ModeSets.{ModesHeld}
+use Rattle.plan.specs.Kept.Showing.{Shows}
 use Rattle.plan.proofs.NumbersUsed.{gapless-count}
 use Rattle.command.specs.State.{modeOf}
-use Rattle.command.specs.Kept.Question.{machinesIn, Placed, Kept, numbersIn, weightsIn}
+use Rattle.command.specs.Kept.Question.{machinesIn, Placed, Kept, numbersIn, weightsIn, sizesIn, sizeIn}
 use Rattle.command.proofs.Shape.{Sound, sound-state, shape-gapless, groups-length, group-below}
 
 module _ {m : Model} {plan state numbers : List ℕ} (p : Placed m plan state numbers) where
@@ -82,6 +84,24 @@ module _ {m : Model} {plan state facts zeros starts : List ℕ} (kept : Kept m p
         shaped = kept .placed .shaped;
         passes = kept .placed .passes;
         numbered = e ∙ ap (numbersIn facts) (placed-machines (kept .placed)) ∙ kept .placed .numbered;
+      }
+
+  -- what judging moves by the plan reads
+  pub kept-shows : {numbers weights sizes : List ℕ} → numbers ≡ groupsIn m plan → weights ≡ weightsIn facts → sizes ≡ sizesIn facts
+      → Shows m plan numbers weights sizes starts zeros
+  unfolding sizesIn sizeIn
+  kept-shows e f g =
+      record {
+        valid = kept .placed .valid;
+        shaped = kept .placed .shaped;
+        numbered = e;
+        sizes-long = rw g (part-length facts 64 32 (omega (arith, kept .long)));
+        starts-long = kept .starts-long;
+        held-long = kept .sets-long;
+        sized = λ k h. rw g (part-byte facts 64 32 k (omega (arith, placed-count (kept .placed))) ∙ kept .sizes k h);
+        starts-at = kept .starts-at;
+        modes = rw f (kept .held);
+        lives = kept .lives;
       }
 
   -- where the machines stand in mode 0

@@ -25,15 +25,15 @@ use Rattle.command.specs.Goal.{Masks}
 use Rattle.command.specs.Attainable.{coverFaults}
 use Rattle.command.specs.Next.{Next, followBy, fulfil}
 use Rattle.command.specs.Kept.Question.{Allows, Placed, Kept, GroupsOnly, FailedSet, NamedBy, UpstreamOfSome}
-use Rattle.command.specs.Kept.Question.{machinesIn, AllowedSets, KeptGoal, numbersIn}
+use Rattle.command.specs.Kept.Question.{machinesIn, AllowedSets, KeptGoal, Uncertain, numbersIn}
 use Rattle.command.proofs.CoverLoop.{above-only}
 use Rattle.command.proofs.GroupVerdict.{Top}
 use Rattle.command.proofs.LeftUnmet.{left-only, highest-left}
-use Rattle.command.proofs.Placing.{placed-known, placed-numbers, placed-number, kept-placed}
+use Rattle.command.proofs.Placing.{placed-known, kept-placed}
 use Rattle.command.proofs.Verdicts.{accepted-unless}
 
-module _ {m : Model} {file plan state : List ℕ} {goal : Masks} {bodies starts facts zeros named live masks : List ℕ}
-    {left : ℕ} (q : KeptGoal m file plan state goal bodies starts facts zeros named live masks left) where
+module _ {m : Model} {file plan state : List ℕ} {goal : Masks} {bodies starts facts zeros named machines live masks : List ℕ}
+    {left : ℕ} (q : KeptGoal m file plan state goal bodies starts facts zeros named machines live masks left) where
   -- what `numbers` asks
   pub pursued-few : (length facts ≡ 128) × (machinesIn state ≤ 32)
   pursued-few = (q .kept .long, placed-known (q .kept .placed))
@@ -43,20 +43,6 @@ module _ {m : Model} {file plan state : List ℕ} {goal : Masks} {bodies starts 
     pub pursued-placed : Placed m plan state own
     pursued-placed = kept-placed (q .kept) e
 
-    -- what `members` asks
-    pub pursued-machines : (length own ≤ 32) × ((i : ℕ) → i < length own → getD own i 0 < 32)
-    pursued-machines =
-        let p = pursued-placed in
-        (omega (arith, placed-numbers p, p .valid .few-machines), λ i h. placed-number p i)
-
-    pub pursued-members : {machines : List ℕ} → MemberSets own machines → MemberSets (groupsIn m plan) machines
-    pursued-members sets = rw (pursued-placed .numbered) at sets
-
-    -- what `failed` tells
-    pub pursued-failed : {lost : ℕ} → ((m : Model) (plan : List ℕ) → Placed m plan state own → live ≡ pad 32 (m .live)
-        → FailedSet m plan state lost) → FailedSet m plan state lost
-    pursued-failed f = f m plan pursued-placed (q .lives)
-
   module _ (fits : left < 2 ^ 64) where
     pub pursued-only : GroupsOnly m plan left
     pursued-only = left-only (q .kept .placed) (q .leaves) fits
@@ -65,7 +51,7 @@ module _ {m : Model} {file plan state : List ℕ} {goal : Masks} {bodies starts 
     module _ {above : ℕ} (up : (m : Model) (plan : List ℕ) (counts : ℕ → Bool) → Valid m → wellShaped m plan ≡ true
         → NamedBy m plan counts named
         → UpstreamOfSome m plan counts left above) where
-      pub pursued-upper : UpstreamOfSome m plan everyMove left above
+      pursued-upper : UpstreamOfSome m plan everyMove left above
       pursued-upper = up m plan everyMove (q .kept .placed .valid) (q .kept .placed .shaped) (q .naming)
 
       module _ {among : ℕ} (j : among ≡ union above left) where
@@ -75,20 +61,39 @@ module _ {m : Model} {file plan state : List ℕ} {goal : Masks} {bodies starts 
             (or-cases (bit above k) (bit left k) (sym (bit-union above left k) ∙ rw j at t))
 
         -- what `allowed_sets` tells
-        module _ {machines wanted : List ℕ} (sets : MemberSets (groupsIn m plan) machines)
+        module _ {wanted : List ℕ}
             (f : (m : Model) (plan state starts : List ℕ) (goal : Masks) → Kept m plan state facts zeros starts
             → Allows m goal masks → GroupsOnly m plan among → MemberSets (groupsIn m plan) machines
             → AllowedSets m plan goal among wanted) where
           both : AllowedSets m plan goal among wanted
-          both = f m plan state starts goal (q .kept) (q .allows) pursued-among sets
+          both = f m plan state starts goal (q .kept) (q .allows) pursued-among (q .members)
 
           pub pursued-left : AllowedSets m plan goal left wanted
           pursued-left =
               record { each = λ k t. both .each k (rw (j, bit-union) (or-right (bit above k) t)) }
 
-          pub pursued-above : AllowedSets m plan goal above wanted
+          pursued-above : AllowedSets m plan goal above wanted
           pursued-above =
               record { each = λ k t. both .each k (rw (j, bit-union) (or-left (bit left k) t)) }
+
+          -- what `cover` asks, by the numbers of the groups and those that are not live
+          pub pursued-uncertain : {own : List ℕ} {failed : ℕ} → own ≡ numbersIn facts (machinesIn state)
+              → ((m : Model) (plan : List ℕ) → Placed m plan state own → live ≡ pad 32 (m .live) → FailedSet m plan state failed)
+              → Uncertain m file plan state goal bodies starts facts zeros own wanted left failed above
+          pursued-uncertain e g =
+              record {
+                leaves = record {
+                  kept = q .kept;
+                  numbered = pursued-placed e .numbered;
+                  unmet-groups = q .leaves;
+                  only = pursued-only;
+                  allows = pursued-left;
+                };
+                listed = q .listed;
+                not-live = g m plan (pursued-placed e) (q .lives);
+                upper = pursued-upper;
+                allows-above = pursued-above;
+              }
 
     -- 16 to 18 pass, and the highest is followed
     pub pursued-replies : (k : ℕ) {v : Verdict} {r : Reply Next}

@@ -14,7 +14,8 @@ use Rattle.sheet.specs.Model.{Model}
 use Rattle.sheet.specs.Valid.{Valid}
 use Rattle.sheet.proofs.Parsed.{parse-valid}
 use Rattle.plan.specs.Groups.{groupCount}
-use Rattle.plan.specs.Reading.{wellShaped, everyMove}
+use Rattle.plan.specs.Reading.{wellShaped}
+use Rattle.plan.specs.Shown.{usableIn}
 use Rattle.command.specs.Goal.{Masks, met}
 use Rattle.common.specs.Lists.{downTo}
 use Rattle.command.specs.Attainable.{groups, deadEnd, groupFaults, attainFaults}
@@ -87,5 +88,5 @@ uncovered sheet plan state goal d parsed shaped bytes state-fits goal-fits fails
     let fits = state-passes m state .1 state-fits in
     let fine = goal-passes m goal .1 goal-fits in
     rw (next-reply sheet plan state goal d parsed shaped fits fine)
-    (attain-refuses m plan everyMove state _ valid shaped small (sound-state m state fits) _
+    (attain-refuses m plan (usableIn m plan) state _ valid shaped small (sound-state m state fits) _
     (false-of-not-true (λ t. fails (passes-admitted m valid plan shaped small state goal fits fine t))))

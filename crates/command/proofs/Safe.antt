@@ -5,7 +5,7 @@ use Prim.Native.Nat.{ℕ, _<_}
 use mathlib.Core.Path.{_≡_, _∙_}
 use mathlib.Core.Logic.{⊎-elim}
 use mathlib.Core.List.{List, [], _∷_, List·Memᴰ}
-use mathlib.Core.Bool.{Bool, true}
+use mathlib.Core.Bool.{true}
 use native.Mathlib.Omega.{arith}
 use Rattle.common.proofs.Least.{mem-or-not}
 use Rattle.sheet.specs.Model.{Model, moveAt}
@@ -14,8 +14,10 @@ use Rattle.plan.specs.Groups.{groupCount, movesOf, namedOutside}
 use Rattle.plan.specs.Modes.{size, liveMode}
 use Rattle.plan.specs.Usable.{leads, endMode}
 use Rattle.plan.specs.Reading.{groupsIn}
+use Rattle.plan.specs.Shown.{usableIn}
 use Rattle.plan.specs.Laws.{TableLaws, RouteLaws}
 use Rattle.plan.proofs.Named.{moves-below, moves-group}
+use Rattle.plan.proofs.Shown.{always-met}
 use Rattle.plan.proofs.Steps.{endMode-below}
 use Rattle.command.specs.Goal.{Masks, guardMasks}
 use Rattle.command.specs.Attainable.{groups}
@@ -35,8 +37,8 @@ pub record SafeLaws (m : Model) (plan : List ℕ) (Usable : ℕ → Type 0) (S :
       → a < k → p < size m (groups m plan) a → liveMode m (groups m plan) a p ≡ true
       → S (guardMasks m (groups m plan) k (moveAt m v)) a p
 
-module _ {m : Model} {plan : List ℕ} {counts : ℕ → Bool} {Usable : ℕ → Type 0} {longest : ℕ → ℕ} (valid : Valid m)
-    (tables : TableLaws m plan counts Usable longest) (routes : RouteLaws m plan Usable) where
+module _ {m : Model} {plan : List ℕ} {Usable : ℕ → Type 0} {longest : ℕ → ℕ} (valid : Valid m)
+    (tables : TableLaws m plan (usableIn m plan) Usable longest) (routes : RouteLaws m plan Usable) where
   move-below : {k v : ℕ} → List·Memᴰ v (movesOf m (groups m plan) k) → k < groupCount (groups m plan)
   move-below {k} {v} member = Facts.move-below m valid plan (tables .shaped) k v member
 
@@ -60,7 +62,8 @@ module _ {m : Model} {plan : List ℕ} {counts : ℕ → Bool} {Usable : ℕ →
       ⊎-elim
       (λ n.
       let named = rw (← moves-group m (groupsIn m plan) k member) at n in
-      let r = tables .always-met v a q (moves-below m (groupsIn m plan) k member) usable named below live in
+      let counts = tables .usable-counts v (moves-below m (groupsIn m plan) k member) usable in
+      let r = always-met m plan (tables .byte-entries) v a q counts named below live in
       let other : a ≡ k → ⊥ = λ e. omega arith in
       (r .0, r .1, Facts.needs-allowed m valid plan (tables .shaped) k v member a (r .0) other ∙ r .2, r .3))
       (λ free. (

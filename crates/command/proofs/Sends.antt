@@ -17,7 +17,7 @@ use Rattle.plan.specs.Laws.{TableLaws}
 use Rattle.command.specs.Goal.{Masks, met}
 use Rattle.command.specs.Attainable.{groups}
 use Rattle.command.specs.Covered.{Attains, Covered}
-use Rattle.command.specs.Next.{done, command, holdsOutside, prepareBy, fulfil}
+use Rattle.command.specs.Next.{done, command, holdsOutside, prepareBy, fulfilWith}
 use Rattle.command.proofs.Facts
 use Rattle.command.proofs.Facts.{Sound}
 use Rattle.command.proofs.Following
@@ -42,11 +42,11 @@ module _ (m : Model) (plan : List ℕ) (Usable : ℕ → Type 0) (state : List �
         → Sends (needsOf m plan state masks k) k j v → Sends masks (suc k) j v
 
   -- what fulfilling replies: the command of a move that is sent
-  pub record Commanded (masks : Masks) (g : ℕ) : Type 0 where
+  pub record Commanded (counts : ℕ → Bool) (masks : Masks) (g : ℕ) : Type 0 where
     pub group : ℕ
     pub move : ℕ
     pub sends : Sends masks g group move
-    pub replies : fulfil m plan state masks g ≡ given (command (moveAt m move .machine) (moveAt m move .command))
+    pub replies : fulfilWith m plan state counts masks g ≡ given (command (moveAt m move .machine) (moveAt m move .command))
 
 pub covered-below : {m : Model} {plan : List ℕ} {counts : ℕ → Bool} {A S : Masks → ℕ → ℕ → Type 0} {masks : Masks} {state : List ℕ}
     {g : ℕ} → Covered m plan counts A S masks state (suc g) → Covered m plan counts A S masks state g
@@ -70,26 +70,26 @@ module _ {m : Model} {plan : List ℕ} {counts : ℕ → Bool} {Usable : ℕ →
       Heading.heading valid tables sound masks k below unmet (c .attains k (omega arith) unmet)
 
   follows : (masks : Masks) (k : ℕ) → met (groups m plan) masks state k ≡ false → Heading m plan Usable state masks k
-      → fulfil m plan state masks (suc k)
-      ≡ prepareBy m plan state (λ needs. fulfil m plan state needs k) k (moveAt m (firstMove m plan state masks k))
+      → fulfilWith m plan state counts masks (suc k)
+      ≡ prepareBy m plan state (λ needs. fulfilWith m plan state counts needs k) k (moveAt m (firstMove m plan state masks k))
   follows masks k unmet h =
-      Following.fulfil-unmet m plan state masks k unmet
-      ∙ Following.follow-fit m plan state _ masks k (Heading.heading-fits valid tables sound masks k h)
+      Following.fulfil-unmet m plan state counts masks k unmet
+      ∙ Following.follow-fit m plan state counts _ masks k (Heading.heading-fits valid tables sound masks k h)
 
   commanded-lower : (masks : Masks) (k : ℕ) → met (groups m plan) masks state k ≡ true
-      → Commanded m plan Usable state masks k → Commanded m plan Usable state masks (suc k)
+      → Commanded m plan Usable state counts masks k → Commanded m plan Usable state counts masks (suc k)
   commanded-lower masks k e c =
       record {
         group = c .group;
         move = c .move;
         sends = lower e (c .sends);
-        replies = Following.fulfil-met m plan state masks k e ∙ c .replies;
+        replies = Following.fulfil-met m plan state counts masks k e ∙ c .replies;
       }
 
   commanded-own : (masks : Masks) (k : ℕ) → met (groups m plan) masks state k ≡ false
       → Heading m plan Usable state masks k
       → holdsOutside m plan state k (moveAt m (firstMove m plan state masks k)) ≡ true
-      → Commanded m plan Usable state masks (suc k)
+      → Commanded m plan Usable state counts masks (suc k)
   commanded-own masks k unmet h o =
       record {
         group = k;
@@ -101,8 +101,8 @@ module _ {m : Model} {plan : List ℕ} {counts : ℕ → Bool} {Usable : ℕ →
   commanded-prepares : (masks : Masks) (k : ℕ) → met (groups m plan) masks state k ≡ false
       → Heading m plan Usable state masks k
       → holdsOutside m plan state k (moveAt m (firstMove m plan state masks k)) ≡ false
-      → Commanded m plan Usable state (needsOf m plan state masks k) k
-      → Commanded m plan Usable state masks (suc k)
+      → Commanded m plan Usable state counts (needsOf m plan state masks k) k
+      → Commanded m plan Usable state counts masks (suc k)
   commanded-prepares masks k unmet h o c =
       record {
         group = c .group;
@@ -124,9 +124,9 @@ module _ {m : Model} {plan : List ℕ} {counts : ℕ → Bool} {Usable : ℕ →
 
   -- a covered goal is fulfilled, or a command is given
   pub done-or-commanded : (g : ℕ) → g ≤ groupCount (groups m plan) → (masks : Masks) → Covered m plan counts (Attains m plan) S masks state g
-      → ((fulfil m plan state masks g ≡ given done) × AllMet m plan state masks g)
-      ⊎ Commanded m plan Usable state masks g
-  done-or-commanded zero le masks c = inl (Following.fulfil-none m plan state masks, λ a h. absurd (not-suc-le-zero h))
+      → ((fulfilWith m plan state counts masks g ≡ given done) × AllMet m plan state masks g)
+      ⊎ Commanded m plan Usable state counts masks g
+  done-or-commanded zero le masks c = inl (Following.fulfil-none m plan state counts masks, λ a h. absurd (not-suc-le-zero h))
   done-or-commanded (suc k) le masks c =
       by-cases (met (groups m plan) masks state k)
       (λ e. ⊎-elim (λ d. inl (rest e d)) (λ r. inr (commanded-lower valid tables sound masks k e r))
@@ -139,10 +139,10 @@ module _ {m : Model} {plan : List ℕ} {counts : ℕ → Bool} {Usable : ℕ →
       (done-or-commanded k (omega arith) (needsOf m plan state masks k) (heading-needs-covered masks k h unmet c))))))
     where
       rest : met (groups m plan) masks state k ≡ true
-          → (fulfil m plan state masks k ≡ given done) × AllMet m plan state masks k
-          → (fulfil m plan state masks (suc k) ≡ given done) × AllMet m plan state masks (suc k)
+          → (fulfilWith m plan state counts masks k ≡ given done) × AllMet m plan state masks k
+          → (fulfilWith m plan state counts masks (suc k) ≡ given done) × AllMet m plan state masks (suc k)
       rest e d = (
-        Following.fulfil-met m plan state masks k e ∙ d .0,
+        Following.fulfil-met m plan state counts masks k e ∙ d .0,
         λ a h. ⊎-elim (λ i. rw i e) (λ i. d .1 a i) (last-or-below h),
       )
 

@@ -1,10 +1,9 @@
--- What 13 and the shape of 15 tell: a state's modes and tags are there, each machine has a group, and the moves of a group.
+-- What 13 tells: a state's modes and tags are there. What the shape of 15 tells is passed on from crate plan.
 -- Assumes nothing.
-use Prim.Native.Nat.{ℕ, _*_, _≤_, _<_}
+use Prim.Native.Nat.{ℕ, _*_, _<_}
 use mathlib.Core.Path.{_≡_}
-use mathlib.Core.List.{List, List·Memᴰ}
+use mathlib.Core.List.{List}
 use mathlib.Core.Bool.{true}
-use native.Mathlib.Omega.{arith}
 use borrow.Author.Tests.{eqb-true, eq-eqb, leb-false, lt-leb, not-false}
 use lib.Dec.{leb}
 use lib.ListN.{length}
@@ -15,14 +14,9 @@ use Rattle.common.proofs.Lists.{any-none, any-fails}
 use Rattle.common.proofs.Members.{upTo-mem, upTo-below}
 use Rattle.common.proofs.Reply.{Clear}
 use Rattle.common.proofs.Clear.{clear-each}
-use Rattle.sheet.specs.Model.{Model, machineCount, modeCount, moveAt}
-use Rattle.sheet.specs.Valid.{Valid}
-use Rattle.plan.specs.Groups.{groupOf, groupCount, movesOf}
+use Rattle.sheet.specs.Model.{Model, machineCount, modeCount}
 use Rattle.plan.specs.Modes.{Fits}
-use Rattle.plan.specs.Reading.{groupsIn, gapless, needsFirst, wellShaped}
-use Rattle.plan.proofs.ShapeTests.{shape-tests, numbers-long}
-use Rattle.plan.proofs.Named.{group-below-count, moves-below, moves-group}
-use Rattle.plan.proofs.NumbersUsed.{gapless-count}
+pub use Rattle.plan.proofs.ShapedGroups.{shape-gapless, shape-first, groups-length, group-below, few-groups, move-below}
 use Rattle.command.specs.State.{modes, modeOf, tagOf, badPair, stateFaults}
 
 -- a state that passes 13
@@ -54,26 +48,3 @@ state-sound m state s = (
     tt,
   ),
 )
-
-module _ (m : Model) (plan : List ℕ) (shaped : wellShaped m plan ≡ true) where
-  pub shape-gapless : gapless (groupsIn m plan) ≡ true
-  shape-gapless = shape-tests m plan .0 shaped .no-gap
-
-  pub shape-first : needsFirst m (groupsIn m plan) ≡ true
-  shape-first = shape-tests m plan .0 shaped .first
-
-module _ (m : Model) (valid : Valid m) (plan : List ℕ) (shaped : wellShaped m plan ≡ true) where
-  pub groups-length : length (groupsIn m plan) ≡ machineCount m
-  groups-length = numbers-long m plan (shape-tests m plan .0 shaped)
-
-  pub group-below : (i : ℕ) → i < machineCount m → groupOf (groupsIn m plan) i < groupCount (groupsIn m plan)
-  group-below i h = group-below-count (groupsIn m plan) i (omega (arith, groups-length))
-
-  pub few-groups : groupCount (groupsIn m plan) ≤ 32
-  few-groups =
-      omega (arith, groups-length, gapless-count (groupsIn m plan) (shape-gapless m plan shaped), valid .few-machines)
-
-  pub move-below : (k v : ℕ) → List·Memᴰ v (movesOf m (groupsIn m plan) k) → k < groupCount (groupsIn m plan)
-  move-below k v h =
-      let there = valid .moves-valid v (moves-below m (groupsIn m plan) k h) .present in
-      omega (arith, moves-group m (groupsIn m plan) k h, group-below (moveAt m v .machine) there)

@@ -21,7 +21,7 @@ use Rattle.plan.specs.Reading.{groupsIn}
 use Rattle.command.specs.State.{everySecond, modes, modeOf, tagOf, withMode, badPair, stateFaults}
 use Rattle.command.specs.Goal.{Masks, met}
 use Rattle.command.specs.Attainable.{liveGroup, deadEnd, groupFaults, attainFaults}
-use Rattle.command.specs.Next.{Next, holdsInside, holdsOutside, unfit, prepareBy, followBy, fulfil}
+use Rattle.command.specs.Next.{Next, holdsInside, holdsOutside, unfit, unfitWith, prepareBy, followBy, followWith, fulfil, fulfilWith}
 use Rattle.command.specs.Next.{goalRefusals, nextReply}
 use Rattle.command.specs.Apply.{Applied, noneActs, acts, actingMove, stateBy, appliedBy, applyReply, effectReply, stateAfter}
 use Rattle.command.specs.Tagless.{tagless, SameModes, TagsUnseen, TaglessSame}
@@ -40,12 +40,12 @@ module _ (m : Model) (plan state other : List ℕ) (same : modes state ≡ modes
   outside-same k v = rw same
 
   unfit-same : (k : ℕ) (e : Entry) → unfit m plan state k e ≡ unfit m plan other k e
-  unfolding unfit
+  unfolding unfitWith
   unfit-same k e = rw (inside-same k (moveAt m (e .move)), same)
 
   follow-same : (f : Masks → Reply Next) (masks : Masks) (k : ℕ)
       → followBy m plan state f masks k ≡ followBy m plan other f masks k
-  unfolding followBy prepareBy
+  unfolding followWith prepareBy
   follow-same f masks k =
       simp (same-entry m plan other state masks k (ap (modeNumber m (groupsIn m plan) k) same), unfit-same, outside-same)
 
@@ -54,7 +54,7 @@ module _ (m : Model) (plan state other : List ℕ) (same : modes state ≡ modes
   met-same masks k = rw same
 
   pub fulfil-same : (masks : Masks) (n : ℕ) → fulfil m plan state masks n ≡ fulfil m plan other masks n
-  unfolding fulfil
+  unfolding fulfilWith
   fulfil-same masks zero = refl
   fulfil-same masks (suc k) =
       rw (met-same masks k)

@@ -13,7 +13,8 @@ use Rattle.common.proofs.Lists.{all-cong}
 use Rattle.common.proofs.Sums.{flatMap-cong}
 use Rattle.sheet.specs.Model.{Model, machineCount}
 use Rattle.plan.specs.Groups.{groupOf, groupCount, members}
-use Rattle.plan.specs.Reading.{groupsIn, wellShaped, everyMove}
+use Rattle.plan.specs.Reading.{groupsIn, wellShaped}
+use Rattle.plan.specs.Shown.{usableIn}
 use Rattle.plan.proofs.Modes.{member-of}
 use Rattle.command.specs.State.{modes, modeOf, tagOf}
 use Rattle.command.specs.Goal.{goalFaults}
@@ -35,24 +36,24 @@ module _ (m : Model) (plan : List ℕ) (masks : Masks) (state other : List ℕ) 
     (agree : (i : ℕ) → Concerned m plan masks state i → tagOf state i ≡ tagOf other i) where
   -- an unmet group, and one that concerns it
   module _ (k : ℕ) (below : k < groupCount (groupsIn m plan)) (unmet : met (groupsIn m plan) masks state k ≡ false) where
-    live-same : (a : ℕ) → Concerns m plan everyMove state masks k a → liveGroup m plan state a ≡ liveGroup m plan other a
+    live-same : (a : ℕ) → Concerns m plan (usableIn m plan) state masks k a → liveGroup m plan state a ≡ liveGroup m plan other a
     unfolding liveGroup
     live-same a c =
         all-cong _ _ (members (groupsIn m plan) a) (λ i l.
-        let here : Concerns m plan everyMove state masks k (groupOf (groupsIn m plan) i) = rw (member-of (groupsIn m plan) a l) c in
+        let here : Concerns m plan (usableIn m plan) state masks k (groupOf (groupsIn m plan) i) = rw (member-of (groupsIn m plan) a l) c in
         let tag = agree i (record { group = k; below = below; unmet = unmet; concerns = here }) in
         rw (same, tag))
 
     -- of 16
-    hindered-same : (a : ℕ) → ((eqb a k || upstreamIn m plan everyMove k a) && not (liveGroup m plan state a))
-        ≡ ((eqb a k || upstreamIn m plan everyMove k a) && not (liveGroup m plan other a))
+    hindered-same : (a : ℕ) → ((eqb a k || upstreamIn m plan (usableIn m plan) k a) && not (liveGroup m plan state a))
+        ≡ ((eqb a k || upstreamIn m plan (usableIn m plan) k a) && not (liveGroup m plan other a))
     hindered-same a =
-        by-cases (eqb a k || upstreamIn m plan everyMove k a)
-        (λ t. rw t (ap not (live-same a (concern m plan everyMove state masks k a t))))
+        by-cases (eqb a k || upstreamIn m plan (usableIn m plan) k a)
+        (λ t. rw t (ap not (live-same a (concern m plan (usableIn m plan) state masks k a t))))
         (λ f. rw f)
 
-    faults-same : groupFaults m plan everyMove (deadEnd m plan) state masks k
-        ≡ groupFaults m plan everyMove (deadEnd m plan) other masks k
+    faults-same : groupFaults m plan (usableIn m plan) (deadEnd m plan) state masks k
+        ≡ groupFaults m plan (usableIn m plan) (deadEnd m plan) other masks k
     unfolding groupFaults deadEnd
     faults-same = rw (fun-ext hindered-same, same)
 

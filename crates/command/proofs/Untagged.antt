@@ -10,10 +10,12 @@ use Rattle.common.specs.Reply.{clear}
 use Rattle.sheet.specs.Model.{Model, moveCount, moveAt}
 use Rattle.sheet.specs.Valid.{Valid}
 use Rattle.plan.specs.Groups.{groupOf, groupCount}
-use Rattle.plan.specs.Reading.{groupsIn, wellShaped, everyMove}
+use Rattle.plan.specs.Reading.{groupsIn, wellShaped}
+use Rattle.plan.specs.Shown.{usableIn, UsableUnder}
 use Rattle.plan.proofs.Named.{moves-in}
 use Rattle.plan.proofs.Counted.{moves-counted}
 use Rattle.plan.proofs.Modes.{is-member}
+use Rattle.plan.proofs.Shown.{usable-shown}
 use Rattle.command.specs.State.{tagOf}
 use Rattle.command.specs.Goal.{Masks, guardMasks, met}
 use Rattle.command.specs.Ancestors.{upstreamIn}
@@ -38,29 +40,29 @@ module _ (m : Model) (valid : Valid m) (plan : List ℕ) (shaped : wellShaped m 
     pub top : ℕ
     pub below : top < n
     pub unmet : met (groupsIn m plan) masks state top ≡ false
-    pub leads : Concerns m plan everyMove state masks top (home v)
+    pub leads : Concerns m plan (usableIn m plan) state masks top (home v)
 
-  -- what move v of group k needs leaves a group unmet: that one is upstream of k
-  needs-up : (k v : ℕ) → v < moveCount m → home v ≡ k → (a : ℕ)
+  -- what a usable move v of group k needs leaves a group unmet: that one is upstream of k
+  needs-up : (k v : ℕ) → v < moveCount m → home v ≡ k → UsableUnder m plan v → (a : ℕ)
       → met (groupsIn m plan) (guardMasks m (groupsIn m plan) k (moveAt m v)) state a ≡ false
-      → upstreamIn m plan everyMove k a ≡ true
-  needs-up k v listed own =
+      → upstreamIn m plan (usableIn m plan) k a ≡ true
+  needs-up k v listed own usable =
       let member = moves-in m (groupsIn m plan) listed own in
-      unmet-upstream m valid plan shaped k v member state sound everyMove
-      (moves-counted m plan everyMove k member refl)
+      unmet-upstream m valid plan shaped k v member state sound (usableIn m plan)
+      (moves-counted m plan (usableIn m plan) k member (usable-shown m valid plan shaped v listed .1 usable))
 
   pub picked-way : {masks : Masks} {n v : ℕ} → Picks m plan state masks n (entryMove v) → Way masks n v
   picked-way (sends k q h t f o) =
       record { listed = f .listed; top = k; below = h .below; unmet = h .unmet; leads = inl (f .own) }
   picked-way {v = v} (prepares k q h t f w p) =
       let r = picked-way p in
-      let up = needs-up k _ (f .listed) (f .own) (r .top) (r .unmet) in
+      let up = needs-up k _ (f .listed) (f .own) (f .usable) (r .top) (r .unmet) in
       record {
         listed = r .listed;
         top = k;
         below = h .below;
         unmet = h .unmet;
-        leads = inr (⊎-elim (λ e. rw e up) (λ u. upstream-trans m valid plan everyMove shaped k (r .top) (home v) up u) (r .leads));
+        leads = inr (⊎-elim (λ e. rw e up) (λ u. upstream-trans m valid plan (usableIn m plan) shaped k (r .top) (home v) up u) (r .leads));
       }
 
   module _ (masks : Masks) (covered : clear (coverFaults m plan state masks) ≡ true) where
@@ -69,8 +71,8 @@ module _ (m : Model) (valid : Valid m) (plan : List ℕ) (shaped : wellShaped m 
     picked-untagged v picks =
         let r = picked-way picks in
         let there = valid .moves-valid v (r .listed) .present in
-        let passed = clear-group m plan everyMove state masks covered (r .top) (r .below) (r .unmet) in
-        let live = all-live m plan everyMove state masks (r .top) passed (home v)
+        let passed = clear-group m plan (usableIn m plan) state masks covered (r .top) (r .below) (r .unmet) in
+        let live = all-live m plan (usableIn m plan) state masks (r .top) passed (home v)
         (group-below m valid plan shaped (moveAt m v .machine) there) (r .leads) in
         live-untagged m plan state (home v) (moveAt m v .machine) live
         (is-member (groupsIn m plan) (home v) (rw groups-length there) refl)

@@ -19,7 +19,7 @@ use Rattle.plan.specs.Groups.{Grouping, groupCount, namedOutside}
 use Rattle.plan.specs.Reading.{groupsIn, wellShaped}
 use Rattle.plan.specs.Reading.{counted}
 use Rattle.plan.proofs.Named.{named-below, named-other, named-more, named-lower}
-use Rattle.plan.proofs.Counted.{counted-moves}
+use Rattle.plan.proofs.Counted.{counted-moves, moves-counted, counted-passes}
 use Rattle.command.specs.Ancestors.{groupGraph, upstream, upstreamIn}
 use Rattle.command.proofs.Shape.{shape-first}
 
@@ -102,3 +102,25 @@ module _ (m : Model) (valid : Valid m) (plan : List ℕ) (counts : ℕ → Bool)
       (omega (arith, upstream-below k a h, upstream-below a b l))
       (upstream-nodes m own (counted m plan counts) a b l .1)
       (chain-append (upstream-chain m own (counted m plan counts) k a h .1) (upstream-chain m own (counted m plan counts) a b l .1))
+
+-- more moves count, more is upstream
+module _ (m : Model) (plan : List ℕ) (counts other : ℕ → Bool) (more : (v : ℕ) → counts v ≡ true → other v ≡ true) where
+  counted-more : (k v : ℕ) → List·Memᴰ v (counted m plan counts k) → List·Memᴰ v (counted m plan other k)
+  counted-more k v l =
+      moves-counted m plan other k (counted-moves m plan counts k l) (more v (counted-passes m plan counts k l))
+
+  chain-more : {d : ℕ} (k a : ℕ) → Chain (groupGraph m (groupsIn m plan) (counted m plan counts)) d k a
+      → Chain (groupGraph m (groupsIn m plan) (counted m plan other)) d k a
+  chain-more k a here = here
+  chain-more k a (step n l c) =
+      let few = counted m plan counts in
+      let node = successor-of-node (groupGraph m (groupsIn m plan) few) k l in
+      let below : k < groupCount (groupsIn m plan) = omega (arith, length-groupGraph m (groupsIn m plan) few) in
+      let named = named-more m (groupsIn m plan) k (few k) (counted-more k) (groupGraph-names m (groupsIn m plan) few k n l) in
+      step {p = k} n (rw (groupGraph-at m (groupsIn m plan) (counted m plan other) k below) named) (chain-more n a c)
+
+  pub upstream-more : (k a : ℕ) → upstreamIn m plan counts k a ≡ true → upstreamIn m plan other k a ≡ true
+  upstream-more k a u =
+      let few = counted m plan counts in
+      chain-upstream m (groupsIn m plan) (counted m plan other) k a (upstream-other m (groupsIn m plan) few k a u)
+      (upstream-nodes m (groupsIn m plan) few k a u .1) (chain-more k a (upstream-chain m (groupsIn m plan) few k a u .1))

@@ -10,7 +10,8 @@ use Rattle.sheet.specs.Parse.{Parsed, parse}
 use Rattle.plan.specs.Groups.{groupOf, groupCount}
 use Rattle.plan.specs.Laws.{PlanLaws}
 use Rattle.plan.specs.Planning.{planReply}
-use Rattle.plan.specs.Reading.{groupsIn, boundIn, everyMove}
+use Rattle.plan.specs.Reading.{groupsIn, boundIn}
+use Rattle.plan.specs.Shown.{usableIn}
 use Rattle.command.specs.State.{modeOf, tagOf, withMode}
 use Rattle.command.specs.Meaning.{MachineMeets}
 use Rattle.command.specs.Next.{Next, done, command}
@@ -98,7 +99,7 @@ abbrev pub ArrivalOfLaws : Type 0
 ArrivalOfLaws =
     (lent : Lent) (state : List ℕ) (d : Parsed) (usable : ℕ → Bool) (longest cost : ℕ → ℕ) (calls : List Call)
     → parse (lent .sheet) ≡ given d
-    → PlanLaws (d .model) (lent .plan) everyMove (λ v. usable v ≡ true) longest cost
+    → PlanLaws (d .model) (lent .plan) (usableIn (d .model) (lent .plan)) (λ v. usable v ≡ true) longest cost
     → Admitted (d .model) (lent .plan) state (lent .goal)
     → Run lent (begins state) calls
     → Promise lent (d .model) (begins state) calls

@@ -17,13 +17,15 @@ use Rattle.plan.specs.Needs.{names, needs, needGraph}
 use Rattle.plan.specs.Groups.{Grouping, groupCount, members, smallestMember, together, numbered, ready, withNumber, numberedUpto, groupsOf}
 use Rattle.plan.specs.Groups.{movesOf, namesGroup, namedOutside}
 use Rattle.plan.specs.Modes.{size, weight, modeNumber, modeIn, liveMode, shifted}
-use Rattle.plan.specs.Usable.{meets, leads, landing, endMode, alwaysMet, usable}
+use Rattle.plan.specs.Usable.{meets, leads, landing, endMode, alwaysMet, usable, joinedBy}
 use Rattle.plan.specs.Routes.{usableMoves, moveGraph, routesIn, routesUpto}
 use Rattle.plan.specs.Table.{starts, entryOf, tableOf}
 use Rattle.plan.specs.Bound.{longest, costIn, costsUpto, boundOf, planBound}
-use Rattle.plan.specs.Bytes.{fourBytes, tableIn, bytesOf, tableLength, tableAt, planLength}
+use Rattle.plan.specs.Bytes.{fourBytes, tableIn, bytesWith, tableLength, tableAt, planLength}
+use Rattle.plan.specs.Promised.{boundByAll}
 use Rattle.plan.specs.Planning.{large, largeGroup, largePlace, largePlan, largeBound, sizeFaults, wrongBuffer, ownPlan, lengthReply, planReply}
-use Rattle.plan.specs.Reading.{counted}
+use Rattle.plan.specs.Reading.{counted, everyMove}
+use Rattle.plan.specs.Shown.{usableIn}
 use Rattle.plan.specs.Reading.{groupsIn, tableOfGroup, entryIn, entryAt, hasRecord, gapless, needsFirst, fitsRecords, wellShaped, boundIn}
 use Rattle.command.specs.State.{everySecond, modes, tags, withMode, badPair, stateFaults}
 use Rattle.command.specs.Goal.{badByte, goalFaults}
@@ -32,18 +34,18 @@ use Rattle.command.specs.Goal.{goalMasks, guardMasks, met, allowed}
 use Rattle.common.specs.Lists.{downTo}
 use Rattle.command.specs.Ancestors.{groupGraph, upstream}
 use Rattle.command.specs.Attainable.{liveGroup, attains, deadEnd, highest, faultOf, groupFaults, attainFaults}
-use Rattle.command.specs.Next.{Next, done, command, nearest, targetOf, holdsInside, holdsOutside, unfit, prepareBy, followBy, fulfil}
+use Rattle.command.specs.Next.{Next, done, command, nearest, targetOf, holdsInside, holdsOutside, unfitWith, prepareBy, followWith, fulfilWith}
 use Rattle.command.specs.Next.{goalRefusals, misshapen, nextReply}
 use Rattle.command.specs.Apply.{Applied, acts, actingMove, stateBy, applyReply}
 use Rattle.command.specs.Run.{lend, Call, ask, apply, refusedNext, refusedApply, none, begins, after, afterAll, Run}
 use Rattle.command.specs.Walk.{Line, sent, finished, stopped, obeyReply, turnReply, obey, walkLines}
-use Rattle.command.specs.Examples.{stove, lone, filterAndPan, burnt, nearer, tied, apart, lidAndArm, eights, seventy}
+use Rattle.command.specs.Examples.{stove, lone, filterAndPan, burnt, nearer, tied, apart, lidAndArm, deadMixer, eights, seventy}
 use Rattle.command.specs.Examples.{parsedIn, modelIn, otherPlan, changedPlan, planOf, blank}
 
 unfoldable pub costsOf : Model → List ℕ
 costsOf m =
     let routes = routesUpto m (groupsOf m) (groupCount (groupsOf m)) in
-    costsUpto m (groupsOf m) (movesOf m (groupsOf m)) routes (groupCount (groupsOf m))
+    costsUpto m (groupsOf m) (usableMoves m (groupsOf m) (joinedBy routes)) routes (groupCount (groupsOf m))
 
 -- a call and its whole answer
 pub data Row : Type 0 where
@@ -57,6 +59,8 @@ pub data Row : Type 0 where
   asks : (sheet state goal : List ℕ) (reply : Reply Next) → Row
   -- next command, with another plan
   follows : (sheet plan state goal : List ℕ) (reply : Reply Next) → Row
+  -- the bound and next command as they were when every move counted
+  before : (sheet state goal : List ℕ) (bound : ℕ) (reply : Reply Next) → Row
   applies : (sheet state : List ℕ) (machine byte : ℕ) (reply : Reply Applied) → Row
   -- a run that meets every premise of arrival, and where it ends
   runs : (sheet state goal : List ℕ) (buffer : ℕ) (calls : List Call) (end : List ℕ) (applied : ℕ) → Row
@@ -69,6 +73,13 @@ Holds (far sheet group from to distance) = entryAt (modelIn sheet) (ownPlan (mod
 Holds (walks sheet state goal lines) = walkLines sheet state goal ≡ lines
 Holds (asks sheet state goal reply) = nextReply sheet (ownPlan (modelIn sheet)) state goal ≡ reply
 Holds (follows sheet plan state goal reply) = nextReply sheet plan state goal ≡ reply
+Holds (before sheet state goal bound reply) =
+    let m = modelIn sheet in
+    let plan = ownPlan m in
+    let masks = goalMasks m goal in
+    (boundByAll m ≡ bound)
+    × (unless (attainFaults m plan everyMove (deadEnd m plan) state masks)
+    (fulfilWith m plan state everyMove masks (groupCount (groupsIn m plan))) ≡ reply)
 Holds (applies sheet state machine byte reply) = applyReply sheet state machine byte ≡ reply
 Holds (runs sheet state goal buffer calls end applied) =
     (parse sheet ≡ given (parsedIn sheet))
@@ -213,6 +224,13 @@ cases =
     -- applying: not to a tagged machine; its tag does not hinder another, and no tag changes
     ∷ applies stove (0 ∷ 1 ∷ 0 ∷ 0 ∷ 0 ∷ 0 ∷ []) 0 1 (given (record { move = 255; state = 0 ∷ 1 ∷ 0 ∷ 0 ∷ 0 ∷ 0 ∷ [] }))
     ∷ applies stove (1 ∷ 1 ∷ 0 ∷ 0 ∷ 0 ∷ 1 ∷ []) 1 1 (given (record { move = 2; state = 1 ∷ 1 ∷ 1 ∷ 0 ∷ 0 ∷ 1 ∷ [] }))
+    -- A mixer that is out of order and that only a move which is never usable names: in the way no more, and the bound is smaller. That
+    -- move forged into the oven's entry from off to on is unfit, also beside a tag on the mixer.
+    ∷ plans deadMixer (0 ∷ 1 ∷ []) (1 ∷ 1 ∷ []) 2 66
+    ∷ before deadMixer (tagless (3 ∷ 0 ∷ [])) (15 ∷ 2 ∷ []) 3 (refused 16 0)
+    ∷ asks deadMixer (tagless (3 ∷ 0 ∷ [])) (15 ∷ 2 ∷ []) (given (command 1 2))
+    ∷ follows deadMixer (changedPlan deadMixer 49 1) idle (15 ∷ 2 ∷ []) (refused 15 0)
+    ∷ follows deadMixer (changedPlan deadMixer 49 1) (0 ∷ 1 ∷ 0 ∷ 0 ∷ []) (15 ∷ 2 ∷ []) (refused 15 0)
     -- arrival is not empty: the stove meets its premises, and its run ends as wished, also beside tags
     ∷ runs stove (1 ∷ 0 ∷ 0 ∷ 1 ∷ 0 ∷ 1 ∷ []) (1 ∷ []) 107 (ask ∷ apply ∷ ask ∷ []) (0 ∷ 0 ∷ 0 ∷ 1 ∷ 0 ∷ 1 ∷ []) 1
     ∷ runs stove (tagless (0 ∷ 0 ∷ 0 ∷ [])) (1 ∷ 2 ∷ 2 ∷ []) 107 stoveCalls (tagless (0 ∷ 1 ∷ 1 ∷ [])) 4
@@ -225,20 +243,20 @@ a ⊗ b = (a, b)
 -- every row holds, by computation
 pub cases-hold : AllHold cases
 unfolding
-    flatMap stove lone filterAndPan burnt nearer tied apart lidAndArm eights seventy otherPlan changedPlan planOf
+    flatMap stove lone filterAndPan burnt nearer tied apart lidAndArm deadMixer eights seventy otherPlan changedPlan planOf
     parsedIn modelIn costsOf bit beyond
     successors marked single grown layersFrom layers distancesTo distances between connected upTo all any filter
     position find sum product maximum clear unless andThen word recordAt part moveOf withMachine withMove
     wrongMoveLength badMachine badMove badGuard badGuards sameMove badCommand machineFaults moveFaults endFaults
     faultsOf extended turnAt parseFrom parse names needs needGraph groupCount members smallestMember together
     numbered ready withNumber numberedUpto groupsOf movesOf namesGroup namedOutside size weight modeNumber modeIn
-    liveMode shifted meets leads landing endMode alwaysMet usable usableMoves moveGraph routesIn routesUpto starts entryOf
-    tableOf longest costIn costsUpto boundOf planBound counted twoBytes fourBytes recordOf tableIn bytesOf tableLength tableAt
+    liveMode shifted meets leads landing endMode alwaysMet usable usableIn usableMoves moveGraph routesIn routesUpto starts entryOf
+    tableOf longest costIn costsUpto boundOf planBound counted twoBytes fourBytes recordOf tableIn bytesWith tableLength tableAt
     planLength large largeGroup largePlace largePlan largeBound sizeFaults wrongBuffer ownPlan lengthReply
     planReply groupsIn tableOfGroup entryIn entryAt hasRecord gapless needsFirst fitsRecords wellShaped boundIn
     everySecond modes tags withMode tagless badPair stateFaults badByte goalFaults goalMasks guardMasks met allowed
     downTo groupGraph upstream liveGroup attains deadEnd highest faultOf groupFaults attainFaults nearest targetOf
-    holdsInside holdsOutside unfit prepareBy followBy fulfil goalRefusals misshapen nextReply acts actingMove stateBy
+    holdsInside holdsOutside unfitWith prepareBy followWith fulfilWith goalRefusals misshapen nextReply acts actingMove stateBy
     applyReply after afterAll obeyReply turnReply obey walkLines
 cases-hold =
     (refl, refl, refl, refl) ⊗ refl ⊗ refl ⊗ refl ⊗ refl ⊗ refl ⊗ (refl, refl, refl, refl) ⊗ refl ⊗ refl ⊗ refl
@@ -247,5 +265,6 @@ cases-hold =
     ⊗ refl ⊗ refl ⊗ refl ⊗ refl ⊗ refl ⊗ refl ⊗ refl ⊗ refl ⊗ refl ⊗ refl ⊗ refl ⊗ refl ⊗ refl ⊗ refl ⊗ refl ⊗ refl
     ⊗ refl ⊗ refl ⊗ refl ⊗ refl ⊗ refl ⊗ refl ⊗ refl ⊗ refl ⊗ refl ⊗ refl
     ⊗ refl ⊗ refl ⊗ refl ⊗ refl ⊗ refl ⊗ refl ⊗ refl ⊗ refl ⊗ refl ⊗ refl ⊗ refl
+    ⊗ (refl, refl, refl, refl) ⊗ (refl, refl) ⊗ refl ⊗ refl ⊗ refl
     ⊗ (refl, refl, refl, tt ⊗ tt ⊗ tt ⊗ tt, refl)
     ⊗ (refl, refl, refl, tt ⊗ tt ⊗ tt ⊗ tt ⊗ tt ⊗ tt ⊗ tt ⊗ tt ⊗ tt ⊗ tt ⊗ tt ⊗ tt ⊗ tt ⊗ tt ⊗ tt ⊗ tt, refl) ⊗ tt

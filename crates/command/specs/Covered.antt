@@ -11,7 +11,8 @@ use Rattle.sheet.specs.Valid.{Valid}
 use Rattle.plan.specs.Groups.{groupCount}
 use Rattle.plan.specs.Modes.{size}
 use Rattle.plan.specs.Laws.{Connects}
-use Rattle.plan.specs.Reading.{groupsIn, wellShaped, everyMove}
+use Rattle.plan.specs.Reading.{groupsIn, wellShaped}
+use Rattle.plan.specs.Shown.{usableIn}
 use Rattle.command.specs.State.{stateFaults}
 use Rattle.command.specs.Goal.{Masks, goalMasks, met, allowed}
 use Rattle.command.specs.Ancestors.{upstreamIn}
@@ -48,12 +49,12 @@ module _ (m : Model) (plan : List ℕ) (counts : ℕ → Bool) (A S : Masks → 
 pub record Admitted (m : Model) (plan state goal : List ℕ) : Type 0 where
   pub state-fits : StateFits m state
   pub goal-fits : GoalFits m goal
-  pub covered : Covered m plan everyMove (Attains m plan) (Safe m plan) (goalMasks m goal) state (groupCount (groupsIn m plan))
+  pub covered : Covered m plan (usableIn m plan) (Attains m plan) (Safe m plan) (goalMasks m goal) state (groupCount (groupsIn m plan))
 
 -- Covered is exactly that none of 16, 17 and 18 applies, for any shaped plan of bytes and any state that passes 13.
 abbrev pub CoveredExactly : Type 0
 CoveredExactly =
     (m : Model) (plan state : List ℕ) (masks : Masks) → Valid m → wellShaped m plan ≡ true → ((i : ℕ) → byte plan i < 256)
     → clear (stateFaults m state) ≡ true
-    → (clear (attainFaults m plan everyMove (deadEnd m plan) state masks) ≡ true)
-    ↔ Covered m plan everyMove (Attains m plan) (Safe m plan) masks state (groupCount (groupsIn m plan))
+    → (clear (attainFaults m plan (usableIn m plan) (deadEnd m plan) state masks) ≡ true)
+    ↔ Covered m plan (usableIn m plan) (Attains m plan) (Safe m plan) masks state (groupCount (groupsIn m plan))

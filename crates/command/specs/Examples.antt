@@ -92,6 +92,17 @@ lidAndArm =
     ∷ 8 ∷ 0 ∷ 2 ∷ 0 ∷ 2 ∷ 0 ∷ 1 ∷ 1 ∷ 0 ∷ 2 ∷ 1 ∷ 2
     ∷ 0 ∷ 0 ∷ 3 ∷ 0 ∷ []
 
+-- machine 0 a mixer (off, mixing, jammed, broken: out of order) that goes from off to mixing alone, 1 an oven (off, on) that goes on
+-- with the mixer mixing, or by itself. What is jammed never mixes, so the first of these two moves is never usable.
+unfoldable pub deadMixer : List ℕ
+deadMixer =
+    2 ∷ 0 ∷ 1 ∷ 0 ∷ 4 ∷ 7
+    ∷ 2 ∷ 0 ∷ 1 ∷ 0 ∷ 2 ∷ 3
+    ∷ 4 ∷ 0 ∷ 2 ∷ 0 ∷ 0 ∷ 0 ∷ 1 ∷ 1
+    ∷ 6 ∷ 0 ∷ 2 ∷ 0 ∷ 1 ∷ 0 ∷ 1 ∷ 1 ∷ 0 ∷ 2
+    ∷ 4 ∷ 0 ∷ 2 ∷ 0 ∷ 1 ∷ 0 ∷ 1 ∷ 2
+    ∷ 0 ∷ 0 ∷ 3 ∷ 0 ∷ []
+
 -- two machines of 8 modes, no moves
 unfoldable pub eights : List ℕ
 eights = 2 ∷ 0 ∷ 1 ∷ 0 ∷ 8 ∷ 255 ∷ 2 ∷ 0 ∷ 1 ∷ 0 ∷ 8 ∷ 255 ∷ 0 ∷ 0 ∷ 3 ∷ 0 ∷ []

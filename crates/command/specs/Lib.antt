@@ -3,6 +3,7 @@ pub mod Apply
 pub mod Applying
 pub mod Arrival
 pub mod Attainable
+pub mod Before
 pub mod Cases
 pub mod Covered
 pub mod Examples

@@ -13,6 +13,7 @@ use Rattle.plan.specs.Groups.{groupOf, groupCount}
 use Rattle.plan.specs.Modes.{size}
 use Rattle.plan.specs.Table.{Entry}
 use Rattle.plan.specs.Reading.{groupsIn, entryAt, wellShaped}
+use Rattle.plan.specs.Shown.{UsableUnder}
 use Rattle.command.specs.State.{modeOf}
 use Rattle.command.specs.Goal.{Masks, goalMasks, guardMasks, met, allowed}
 use Rattle.command.specs.Attainable.{groups, present}
@@ -60,13 +61,15 @@ module _ (m : Model) (plan state : List ℕ) where
   abbrev pub Holds : Guard → Type 0
   Holds g = bit (g .mask) (modeOf state (g .machine)) ≡ true
 
-  -- an entry of group k is fit to be followed: a route, by a move of k from the present mode whose needs inside k hold
+  -- an entry of group k is fit to be followed: a route, by a move of k from the present mode whose needs inside k hold, and that is
+  -- usable by the plan
   pub record Fit (k : ℕ) (e : Entry) : Type 0 where
     pub route : e .distance ≡ 255 → ⊥
     pub listed : e .move < moveCount m
     pub own : groupOf (groups m plan) (moveAt m (e .move) .machine) ≡ k
     pub from-now : modeOf state (moveAt m (e .move) .machine) ≡ moveAt m (e .move) .from
     pub inside : (g : Guard) → List·Memᴰ g (moveAt m (e .move) .guards) → groupOf (groups m plan) (g .machine) ≡ k → Holds g
+    pub usable : UsableUnder m plan (e .move)
 
   -- a move's needs outside group k all hold; or one of them does not
   abbrev pub Ready : ℕ → Move → Type 0

@@ -12,6 +12,7 @@ use Rattle.plan.specs.Groups.{groupOf, groupCount}
 use Rattle.plan.specs.Modes.{size}
 use Rattle.plan.specs.Table.{Entry}
 use Rattle.plan.specs.Reading.{groupsIn, entryAt, wellShaped}
+use Rattle.plan.specs.Shown.{usableIn}
 use Rattle.command.specs.State.{modeOf, stateFaults}
 use Rattle.command.specs.Goal.{goalFaults}
 use Rattle.command.specs.Goal.{Masks, goalMasks, guardMasks, met, allowed}
@@ -47,34 +48,48 @@ module _ (m : Model) (plan : List ℕ) (state : List ℕ) where
   unfoldable pub holdsOutside : ℕ → Move → Bool
   holdsOutside k v = all (λ g. eqb (groupOf (groups m plan) (g .machine)) k || holds (g .machine) (g .mask)) (v .guards)
 
-  -- 15 for an entry: it shows no route, or its move is absent, of another group, from another mode, or held up inside k
-  unfoldable pub unfit : ℕ → Entry → Bool
-  unfit k e =
-      eqb (e .distance) 255
-      || leb (moveCount m) (e .move)
-      || not (eqb (groupOf (groups m plan) (moveAt m (e .move) .machine)) k)
-      || not (eqb (modeOf state (moveAt m (e .move) .machine)) (moveAt m (e .move) .from))
-      || not (holdsInside k (moveAt m (e .move)))
-
   -- "preparing a move": send it if its outside needs hold, else fulfil those needs as a goal, by `fulfil` in the groups below k
   unfoldable pub prepareBy : (Masks → Reply Next) → ℕ → Move → Reply Next
   prepareBy fulfil k v =
       let first = fulfil (guardMasks m (groups m plan) k v) in
       cond (holdsOutside k v) (given (command (v .machine) (v .command))) first
 
-  -- the entry of group k toward its target, followed
-  unfoldable pub followBy : (Masks → Reply Next) → Masks → ℕ → Reply Next
-  followBy fulfil masks k =
-      let e = entryAt m plan k (present m plan state k) (targetOf masks k) in
-      unless (fault 15 0 (unfit k e) ∷ []) (prepareBy fulfil k (moveAt m (e .move)))
+  -- by a test of the moves that count
+  module _ (counts : ℕ → Bool) where
+    -- 15 for an entry: it shows no route, or its move is absent, of another group, from another mode, held up inside k, or does not
+    -- count
+    unfoldable pub unfitWith : ℕ → Entry → Bool
+    unfitWith k e =
+        eqb (e .distance) 255
+        || leb (moveCount m) (e .move)
+        || not (eqb (groupOf (groups m plan) (moveAt m (e .move) .machine)) k)
+        || not (eqb (modeOf state (moveAt m (e .move) .machine)) (moveAt m (e .move) .from))
+        || not (holdsInside k (moveAt m (e .move)))
+        || not (counts (e .move))
 
-  -- "fulfilling a wish" on the groups below n: the highest unmet one is next
-  unfoldable pub fulfil : Masks → ℕ → Reply Next
-  fulfil masks zero = given done
-  fulfil masks (suc k) =
-      let here = followBy (λ needs. fulfil needs k) masks k in
-      let below = fulfil masks k in
-      cond (met (groups m plan) masks state k) below here
+    -- the entry of group k toward its target, followed
+    unfoldable pub followWith : (Masks → Reply Next) → Masks → ℕ → Reply Next
+    followWith fulfil masks k =
+        let e = entryAt m plan k (present m plan state k) (targetOf masks k) in
+        unless (fault 15 0 (unfitWith k e) ∷ []) (prepareBy fulfil k (moveAt m (e .move)))
+
+    -- "fulfilling a wish" on the groups below n: the highest unmet one is next
+    unfoldable pub fulfilWith : Masks → ℕ → Reply Next
+    fulfilWith masks zero = given done
+    fulfilWith masks (suc k) =
+        let here = followWith (λ needs. fulfilWith needs k) masks k in
+        let below = fulfilWith masks k in
+        cond (met (groups m plan) masks state k) below here
+
+  -- the moves count that are usable by the plan
+  abbrev pub unfit : ℕ → Entry → Bool
+  unfit = unfitWith (usableIn m plan)
+
+  abbrev pub followBy : (Masks → Reply Next) → Masks → ℕ → Reply Next
+  followBy = followWith (usableIn m plan)
+
+  abbrev pub fulfil : Masks → ℕ → Reply Next
+  fulfil = fulfilWith (usableIn m plan)
 
 -- 13, 14, then 16 to 18: what a call with a fitting plan is refused for
 unfoldable pub goalRefusals : Model → List ℕ → List ℕ → List ℕ → List Fault

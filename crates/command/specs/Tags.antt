@@ -8,7 +8,8 @@ use Rattle.sheet.specs.Record.{byte}
 use Rattle.sheet.specs.Model.{Model, machineCount}
 use Rattle.sheet.specs.Parse.{Parsed, parse}
 use Rattle.plan.specs.Groups.{groupOf, groupCount}
-use Rattle.plan.specs.Reading.{groupsIn, everyMove}
+use Rattle.plan.specs.Reading.{groupsIn}
+use Rattle.plan.specs.Shown.{usableIn}
 use Rattle.command.specs.State.{modeOf, tagOf}
 use Rattle.command.specs.Goal.{Masks, goalMasks, met}
 use Rattle.command.specs.Next.{command, nextReply}
@@ -30,7 +31,7 @@ pub record Concerned (m : Model) (plan : List ℕ) (masks : Masks) (state : List
   pub group : ℕ
   pub below : group < groupCount (groupsIn m plan)
   pub unmet : met (groupsIn m plan) masks state group ≡ false
-  pub concerns : Concerns m plan everyMove state masks group (groupOf (groupsIn m plan) i)
+  pub concerns : Concerns m plan (usableIn m plan) state masks group (groupOf (groupsIn m plan) i)
 
 -- A tag on any other machine hinders nothing: of two states with the same modes, whose tags agree on the machines that are
 -- concerned, both get the same reply, under any plan.

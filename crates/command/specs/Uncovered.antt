@@ -11,7 +11,8 @@ use Rattle.sheet.specs.Parse.{Parsed, parse}
 use Rattle.plan.specs.Groups.{groupOf, groupCount}
 use Rattle.plan.specs.Modes.{size}
 use Rattle.plan.specs.Laws.{Connects}
-use Rattle.plan.specs.Reading.{wellShaped, everyMove}
+use Rattle.plan.specs.Reading.{wellShaped}
+use Rattle.plan.specs.Shown.{usableIn}
 use Rattle.command.specs.Goal.{Masks, goalMasks, met}
 use Rattle.command.specs.Ancestors.{upstreamIn}
 use Rattle.command.specs.Attainable.{groups, present, liveGroup}
@@ -93,4 +94,4 @@ UncoveredRefused =
     (sheet plan state goal : List ℕ) (d : Parsed) → parse sheet ≡ given d → wellShaped (d .model) plan ≡ true
     → ((i : ℕ) → byte plan i < 256) → StateFits (d .model) state → GoalFits (d .model) goal
     → (Admitted (d .model) plan state goal → ⊥)
-    → RefusedSo (d .model) plan everyMove state (goalMasks (d .model) goal) (nextReply sheet plan state goal)
+    → RefusedSo (d .model) plan (usableIn (d .model) plan) state (goalMasks (d .model) goal) (nextReply sheet plan state goal)

@@ -2,6 +2,7 @@
 use crate::fitting::from_now;
 use crate::fitting::held_up;
 use crate::fitting::toward;
+use crate::fitting::usable;
 use crate::query::numbers;
 use crate::query::size_of;
 use crate::query::weights;
@@ -96,7 +97,8 @@ pub fn fulfil(
 ) -> Advice
     requires { ⌜ ((m : Model) × (goal : Masks) × Kept m (now plan) (now state) (now facts) (now zeros) (now starts) × Listed m (now file) (now bodies)
         × (group .0 < groupCount (groupsIn m (now plan))) × AllowedSet m (now plan) goal (group .0) allowed) ⌝ }
-    ensures { λ r. ⌜ ((m : Model) (goal : Masks) → Kept m (now (plan .entry)) (now (state .entry)) (now (facts .entry)) (now (zeros .entry)) (now (starts .entry))
+    ensures { λ r. ⌜ ((m : Model) (goal : Masks)
+        → Kept m (now (plan .entry)) (now (state .entry)) (now (facts .entry)) (now (zeros .entry)) (now (starts .entry))
         → Listed m (now (file .entry)) (now (bodies .entry)) → group .0 < groupCount (groupsIn m (now (plan .entry)))
         → AllowedSet m (now (plan .entry)) goal (group .0) allowed
         → adviceSays r ≡ followBy m (now (plan .entry)) (now (state .entry))
@@ -112,6 +114,9 @@ pub fn fulfil(
     let own = numbers(facts, state);
     let held = held_up(b, state, own);
     if !from_now(b, state, own, group) || sets::has(held, wide(group.0)) {
+        return Advice::Refused(Cause::BadPlan, 0);
+    }
+    if !usable(b, plan, starts, facts, own, zeros) {
         return Advice::Refused(Cause::BadPlan, 0);
     }
     prepare(file, bodies, plan, starts, state, facts, zeros, b, held)

@@ -4,6 +4,7 @@ ghost use mathlib.Core.List.{List};
 ghost use Rattle.command.specs.Ancestors.{UpstreamRight};
 ghost use Rattle.command.specs.Applying.{AppliesRight, StateLeft};
 ghost use Rattle.command.specs.Arrival.{Arrival, ArrivalOfLaws};
+ghost use Rattle.command.specs.Before.{CoveredStill, FewerUpstream};
 ghost use Rattle.command.specs.Cases.{AllHold, cases};
 ghost use Rattle.command.specs.Covered.{CoveredExactly};
 ghost use Rattle.command.specs.Meaning.{GoalsRight, MovesRight, StatesRight};
@@ -79,6 +80,16 @@ pub fn states_are_left_right()
 // Upstream is need, directly or through others.
 pub fn upstream_is_right()
     ensures { λ _. ⌜ UpstreamRight ⌝ }
+{}
+
+// Upstream is never more than it would be if every move counted.
+pub fn upstream_is_fewer()
+    ensures { λ _. ⌜ FewerUpstream ⌝ }
+{}
+
+// Under the sheet's own plan, a goal that would be covered if every move counted is covered, and gets the reply that it would get then.
+pub fn covered_is_covered_still()
+    ensures { λ _. ⌜ CoveredStill ⌝ }
 {}
 
 // A goal is covered exactly if none of 16, 17 and 18 applies.

@@ -6,7 +6,7 @@ use sheet::record::wide;
 ghost use mathlib.Core.Path.{_≡_};
 ghost use Prim.Native.Nat.{ℕ, _≤_, _<_};
 ghost use lib.ListN.{length, getD};
-ghost use Rattle.command.specs.Kept.Question.{machinesIn, numbersIn, weightsIn, sizeIn, presentIn};
+ghost use Rattle.command.specs.Kept.Question.{machinesIn, numbersIn, weightsIn, sizesIn, sizeIn, presentIn};
 
 // Each machine's group and weight, each group's size and present mode: 32 bytes each.
 pub fn gathered(
@@ -49,6 +49,14 @@ pub fn weights(facts: &[u8]) -> &[u8]
     ensures { λ r. ⌜ now r ≡ weightsIn (now (facts .entry)) ⌝ }
 {
     &facts[32..64]
+}
+
+// How many modes each group has.
+pub fn sizes(facts: &[u8]) -> &[u8]
+    requires { ⌜ length (now facts) ≡ 128 ⌝ }
+    ensures { λ r. ⌜ now r ≡ sizesIn (now (facts .entry)) ⌝ }
+{
+    &facts[64..96]
 }
 
 // How many modes a group has.

@@ -5,7 +5,7 @@ use mathlib.Core.Path.{_≡_, refl, sym, ap, ap₂, _∙_}
 use mathlib.Core.Logic.{⊎-elim}
 use mathlib.Core.List.{List, [], _∷_, _++_, map, List·Memᴰ, List·Memᴰ·head as head, List·Memᴰ·tail as tail, Memᴰ·cast}
 use mathlib.Core.List.{append-nil, flatMap, append-assoc, map-append}
-use mathlib.Core.Bool.{Bool, cond}
+use mathlib.Core.Bool.{Bool, true, cond}
 use native.Mathlib.Nat.{not-suc-le-zero, mul-pos, mul-assoc, suc-mul, le-refl, eq-or-lt-of-le, le-of-suc-le-suc}
 use native.Mathlib.Nat.{add-zero, add-suc}
 use native.Mathlib.Omega.{arith}
@@ -73,6 +73,17 @@ module _ {A : Type 0} (f : A → ℕ) where
   sum-filter p [] = zero-le
   sum-filter p (x ∷ xs) =
       by-cases (p x) (λ t. rw t (omega (arith, sum-filter p xs))) (λ k. rw k (omega (arith, sum-filter p xs)))
+
+  -- a test that lets more through
+  pub sum-filter-mono : (p q : A → Bool) (xs : List A) → ((x : A) → List·Memᴰ x xs → p x ≡ true → q x ≡ true)
+      → sum (map f (filter p xs)) ≤ sum (map f (filter q xs))
+  unfolding sum filter
+  sum-filter-mono p q [] h = zero-le
+  sum-filter-mono p q (x ∷ xs) h =
+      let rest = sum-filter-mono p q xs (λ y m. h y (tail m)) in
+      by-cases (p x)
+      (λ t. rw (t, h x (head refl) t) (omega (arith, rest)))
+      (λ k. rw k (by-cases (q x) (λ t. rw t (omega (arith, rest))) (λ n. rw n rest)))
 
   pub sum-add : (g : A → ℕ) (xs : List A) → sum (map (λ x. f x + g x) xs) ≡ sum (map f xs) + sum (map g xs)
   unfolding sum

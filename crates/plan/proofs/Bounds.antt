@@ -3,7 +3,7 @@
 use Prim.Native.Nat.{ℕ, _≤_, _<_}
 use mathlib.Core.Path.{_≡_, refl, sym, subst, _∙_}
 use mathlib.Core.Logic.{_↔_}
-use mathlib.Core.List.{[], map, List·Memᴰ, Memᴰ·of-map}
+use mathlib.Core.List.{List, [], map, List·Memᴰ, Memᴰ·of-map}
 use native.Mathlib.Omega.{arith}
 use lib.ListN.{length, getD}
 use Rattle.common.specs.Lists.{upTo}
@@ -13,16 +13,18 @@ use Rattle.common.proofs.Members.{upTo-below, length-map-upTo}
 use Rattle.common.proofs.Sums.{maximum-some}
 use Rattle.sheet.specs.Model.{Model}
 use Rattle.sheet.specs.Valid.{Valid}
-use Rattle.plan.specs.Groups.{Grouping, groupCount, groupsOf, movesOf, namedOutside}
+use Rattle.plan.specs.Groups.{Grouping, groupCount, groupsOf, namedOutside}
 use Rattle.plan.specs.Modes.{size}
+use Rattle.plan.specs.Usable.{joinedBy}
+use Rattle.plan.specs.Routes.{usableMoves}
 use Rattle.plan.specs.Bound.{longest, planBound}
-use Rattle.plan.specs.Meaning.{MoveOf, NamesOutside, ShortestRoute, BoundRight}
+use Rattle.plan.specs.Meaning.{MoveOf, NamesOutside, Usable, ShortestRoute, BoundRight}
 use Rattle.plan.specs.Promised.{BoundsRight, SmallGroups, ownBound}
 use Rattle.plan.proofs.Modes.{size-positive}
 use Rattle.plan.proofs.ModeDigits.{Rising, filter-rises}
 use Rattle.plan.proofs.Words.{moves-mean, named-mean}
 use Rattle.plan.proofs.Routes.{allRoutes}
-use Rattle.plan.proofs.Usable.{Ordered, own-ordered}
+use Rattle.plan.proofs.Usable.{Ordered, own-ordered, in-usable, usable-in, usable-at, test-right}
 use Rattle.plan.proofs.Distances.{routes-length, route-of-between, between-at-most, between-below, between-longest}
 use Rattle.plan.proofs.Distances.{between-self, connected-size, cell, row}
 use Rattle.plan.proofs.Costs.{costOf, cost-rule, bound-sum}
@@ -89,16 +91,29 @@ module _ {m : Model} {groups : Grouping} (o : Ordered m groups) where
         let z = between-self o h 0 some in
         (0, 0, some, some, subst (λ n. ShortestRoute m groups k n 0 0) (z ∙ e) (shortest-between 0 0 some (rw z some))))
 
-  -- the outside groups that the moves of k name
-  named-exactly : (k a : ℕ) → List·Memᴰ a (namedOutside m groups k (movesOf m groups k))
-      ↔ ((v : ℕ) × MoveOf m groups v k × NamesOutside m groups v a)
+  -- the usable moves of group k
+  abbrev usables : ℕ → List ℕ
+  usables = usableMoves m groups (joinedBy (allRoutes m groups))
+
+  -- the outside groups that they name
+  named-exactly : (k a : ℕ) → List·Memᴰ a (namedOutside m groups k (usables k))
+      ↔ ((v : ℕ) × MoveOf m groups v k × Usable m groups v × NamesOutside m groups v a)
   named-exactly k a =
-      let r = named-mean m groups (o .all-machines) (o .valid) a k _ (λ v. moves-mean m groups v k .0) in (
-        λ l. let (v, v-in, n) = r .0 l in (v, moves-mean m groups v k .0 v-in, n),
-        λ b. let (v, own, n) = b in r .1 (v, moves-mean m groups v k .1 own, n),
+      let routes = allRoutes m groups in
+      let own : (v : ℕ) → List·Memᴰ v (usables k) → MoveOf m groups v k = λ v l.
+      moves-mean m groups v k .0 (usable-in m groups routes k l) in
+      let r = named-mean m groups (o .all-machines) (o .valid) a k _ own in (
+        λ l.
+            let (v, v-in, n) = r .0 l in
+            let u = test-right o k v (usable-in m groups routes k v-in) .0 (usable-at m groups routes k v-in) in
+            (v, own v v-in, u, n),
+        λ b.
+            let (v, of-k, u, n) = b in
+            let l = moves-mean m groups v k .1 of-k in
+            r .1 (v, in-usable m groups routes k l (test-right o k v l .1 u), n),
       )
 
-  named-once : (k : ℕ) → Rising (namedOutside m groups k (movesOf m groups k))
+  named-once : (k : ℕ) → Rising (namedOutside m groups k (usables k))
   unfolding namedOutside
   named-once k = filter-rises _ (groupCount groups)
 
@@ -108,7 +123,7 @@ module _ {m : Model} {groups : Grouping} (o : Ordered m groups) where
         longest = longestOf m groups;
         none-longer = λ k d p q h. none-longer h d p q;
         one-as-long = λ k h. one-as-long h;
-        named = λ k. namedOutside m groups k (movesOf m groups k);
+        named = λ k. namedOutside m groups k (usables k);
         named-exactly = λ k a h. named-exactly k a;
         named-once = named-once;
         cost = costOf m groups (allRoutes m groups);

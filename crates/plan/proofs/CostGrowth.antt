@@ -1,4 +1,4 @@
--- With larger distances and the same named groups no cost is smaller, nor is the bound.
+-- With larger distances and more named groups no cost is smaller, nor is the bound.
 -- Assumes nothing.
 use Prim.Native.Nat.{ℕ, zero, suc, _≤_, _<_, zero-le}
 use mathlib.Core.Path.{_≡_, refl}
@@ -8,7 +8,7 @@ use native.Mathlib.Omega.{arith}
 use borrow.Author.Tests.{ltb-true, ltb-false}
 use lib.Dec.{ltb}
 use lib.ListN.{getD}
-use Rattle.common.specs.Lists.{upTo}
+use Rattle.common.specs.Lists.{upTo, sum}
 use Rattle.common.proofs.Bools.{by-cases}
 use Rattle.common.proofs.Members.{upTo-below, getD-map-upTo, getD-map-upTo-past}
 use Rattle.common.proofs.Snoc.{built-map}
@@ -30,9 +30,13 @@ module _ (longest : ℕ → ℕ) (named : ℕ → List ℕ) where
   cost-behind : {a k : ℕ} → k ≤ a → getD (costsWith longest named k) a 0 ≡ 0
   cost-behind {k} h = rw (costs-map k) (getD-map-upTo-past costAt 0 h)
 
--- the first n groups name the same groups in both ways of counting, and the second has no smaller distances
+-- some numbers are worth no more than others together, whatever each is worth
+abbrev pub Fewer : List ℕ → List ℕ → Type 0
+Fewer xs ys = (f : ℕ → ℕ) → sum (map f xs) ≤ sum (map f ys)
+
+-- in the second way of counting the first n groups name no fewer groups, and have no smaller distances
 module _ (near far : ℕ → ℕ) (named others : ℕ → List ℕ) (n : ℕ) (longer : (k : ℕ) → k < n → near k ≤ far k)
-    (same : (k : ℕ) → k < n → named k ≡ others k) where
+    (fewer : (k : ℕ) → k < n → Fewer (named k) (others k)) where
   cost-grows : (j k : ℕ) → k < j → k < n → costAt near named k ≤ costAt far others k
   unfolding costWith moveCost
   cost-grows zero k h l = absurd (not-suc-le-zero h)
@@ -43,7 +47,8 @@ module _ (near far : ℕ → ℕ) (named others : ℕ → List ℕ) (n : ℕ) (l
       let b = ltb-true a k t in
       rw (cost-before near named b, cost-before far others b) (cost-grows j a (omega arith) (omega arith)))
       (λ f. rw (cost-behind near named (ltb-false a k f)) zero-le) in
-      rw (← same k l) (mul-le-mul (longer k l) (omega (arith, sum-mono _ _ (named k) (λ a m. lower a))))
+      let more = fewer k l (λ a. getD (costsWith far others k) a 0) in
+      mul-le-mul (longer k l) (omega (arith, sum-mono _ _ (named k) (λ a m. lower a), more))
 
   pub bound-grows : boundWith near named n ≤ boundWith far others n
   unfolding boundWith

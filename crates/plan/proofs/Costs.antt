@@ -13,9 +13,12 @@ use Rattle.common.proofs.Members.{upTo-below}
 use Rattle.common.proofs.Snoc.{built-map, built-at}
 use Rattle.sheet.specs.Model.{Model}
 use Rattle.plan.specs.Groups.{Grouping, groupCount, movesOf, namedOutside}
+use Rattle.plan.specs.Usable.{joinedBy}
+use Rattle.plan.specs.Routes.{usableMoves}
 use Rattle.plan.specs.Reading.{needsFirst}
 use Rattle.plan.specs.Bound.{longest, costIn, costsUpto, boundOf, planBound}
 use Rattle.plan.proofs.Named.{named-lower, named-more}
+use Rattle.plan.proofs.Usable.{usable-in}
 
 -- for any moves that count
 module _ (m : Model) (groups : Grouping) (counting : ℕ → List ℕ) (routes : List Matrix) where
@@ -52,16 +55,17 @@ module _ (m : Model) (groups : Grouping) (counting : ℕ → List ℕ) (routes :
       let low = named-lower m groups k first (named-more m groups k (counting k) (inside k) l) in
       costsUpto-at low ∙ sym (costsUpto-at (omega arith))))
 
--- for those that planning counts
+-- for those that planning counts: the usable ones
 module _ (m : Model) (groups : Grouping) (routes : List Matrix) where
   abbrev pub costOf : ℕ → ℕ
-  costOf = costBy m groups (movesOf m groups) routes
+  costOf = costBy m groups (usableMoves m groups (joinedBy routes)) routes
 
   pub bound-sum : planBound m groups routes ≡ sum (map costOf (upTo (groupCount groups)))
   unfolding planBound
-  bound-sum = bound-sum-by m groups (movesOf m groups) routes
+  bound-sum = bound-sum-by m groups (usableMoves m groups (joinedBy routes)) routes
 
   pub cost-rule : needsFirst m groups ≡ true → {k : ℕ} → k < groupCount groups
-      → costOf k ≡ longest (getD routes k []) * (1 + sum (map costOf (namedOutside m groups k (movesOf m groups k))))
+      → costOf k ≡ longest (getD routes k [])
+      * (1 + sum (map costOf (namedOutside m groups k (usableMoves m groups (joinedBy routes) k))))
   cost-rule first =
-      cost-rule-by m groups (movesOf m groups) routes first (λ k v l. l)
+      cost-rule-by m groups (usableMoves m groups (joinedBy routes)) routes first (λ k v l. usable-in m groups routes k l)

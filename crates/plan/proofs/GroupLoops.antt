@@ -67,14 +67,16 @@ smallest-inside numbers k =
     (λ f. omega (arith, find-none (λ i. eqb (groupOf numbers i) k) (upTo (length numbers)) 0 f))
 
 -- numbers below 32 make at most 32 groups
-pub few-groups : {numbers modes : List ℕ} {n : ℕ} → SmallNumbers numbers modes → n ≡ groupCount numbers → n ≤ 32
+pub groups-below : (numbers : List ℕ) → ((i : ℕ) → i < length numbers → getD numbers i 0 < 32) → groupCount numbers ≤ 32
 unfolding groupCount
-few-groups {numbers} small e =
-    rw e
-    (maximum-is-least (map suc numbers) 32 (λ x l.
+groups-below numbers below =
+    maximum-is-least (map suc numbers) 32 (λ x l.
     let r = Memᴰ·of-map suc numbers l in
     let s = mem-index 0 (r .1) in
-    omega (arith, small .below (s .0) (s .1), s .2, r .2)))
+    omega (arith, below (s .0) (s .1), s .2, r .2))
+
+pub few-groups : {numbers modes : List ℕ} {n : ℕ} → SmallNumbers numbers modes → n ≡ groupCount numbers → n ≤ 32
+few-groups {numbers} small e = rw e (groups-below numbers (small .below))
 
 -- The first large group
 

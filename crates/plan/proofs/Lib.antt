@@ -1,4 +1,5 @@
 pub mod ArrayLoops
+pub mod Asking
 pub mod Bounds
 pub mod Bytes
 pub mod CappedSizes
@@ -27,6 +28,7 @@ pub mod Left
 pub mod LengthLaws
 pub mod Limits
 pub mod LinkedGraph
+pub mod LivesLoop
 pub mod MachineDigits
 pub mod MarkLoop
 pub mod Marking
@@ -58,6 +60,7 @@ pub mod PlanBytes
 pub mod PlanShape
 pub mod PlanWritten
 pub mod Planned
+pub mod PlannedStill
 pub mod Planning
 pub mod Radix
 pub mod ReachLoop
@@ -75,12 +78,17 @@ pub mod SetBounds
 pub mod SetLoops
 pub mod Shape
 pub mod ShapeTests
+pub mod ShapedGroups
 pub mod SheetGroups
 pub mod SheetLength
 pub mod SheetNumbers
+pub mod Shown
+pub mod ShownMoves
+pub mod ShownNames
 pub mod SourceModes
 pub mod Steps
 pub mod TableMade
+pub mod TableShown
 pub mod TableStarts
 pub mod TableWrites
 pub mod Tables

@@ -3,7 +3,7 @@
 use Prim.Native.Nat.{ℕ, _+_, _^_, _≤_, _<_}
 use mathlib.Core.Path.{_≡_, refl, sym, _∙_}
 use mathlib.Core.List.{List, Memᴰ·cast}
-use mathlib.Core.Bool.{Bool, true, false, not, _&&_}
+use mathlib.Core.Bool.{Bool, true, false, not, _&&_, _||_}
 use native.Mathlib.Nat.{le-trans}
 use native.Mathlib.Numerals.{add-one}
 use native.Mathlib.Omega.{arith}
@@ -13,7 +13,7 @@ use lib.ListN.{length, getD, set, replicate, length-set}
 use lib.Pow.{pow-mono}
 use lib.Seq.{getD-set-same, getD-set-other}
 use Rattle.common.specs.Bits.{bit}
-use Rattle.common.specs.Lists.{upTo, any}
+use Rattle.common.specs.Lists.{upTo, any, filter}
 use Rattle.common.proofs.Bits.{bit-past}
 use Rattle.common.proofs.Bools.{by-cases, bool-ext, and-intro, and-left, and-right, not-of-false}
 use Rattle.common.proofs.Lists.{any-intro, any-some, any-fails, filter-mem, filter-from, filter-holds}
@@ -26,16 +26,16 @@ use Rattle.sets.proofs.Joined.{bit-joined}
 use Rattle.sheet.specs.Model.{Model, machineCount, moveCount, moveAt}
 use Rattle.sheet.specs.Valid.{Valid}
 use Rattle.plan.specs.Groups.{Grouping, groupOf, groupCount, movesOf, namesGroup, namedOutside}
-use Rattle.plan.specs.Kept.Partition.{OutsideNamed, countedMoves, NamedSets}
+use Rattle.plan.specs.Kept.Partition.{AddsNamed}
 use Rattle.plan.proofs.Named.{group-below-count, moves-in, moves-below, moves-group, guard-valid, moves-mem}
 use Rattle.plan.proofs.Named.{named-in, named-below, named-other, named-by}
 
-module _ (m : Model) (groups : Grouping) (counted : List ℕ) where
+module _ (m : Model) (groups : Grouping) (counts : ℕ → Bool) where
   -- move u is of group k, counts, and names group a outside
   unfoldable pub namesBy : ℕ → ℕ → ℕ → Bool
   namesBy k a u =
       eqb (groupOf groups (moveAt m u .machine)) k
-      && (not (eqb (getD counted u 0) 0) && (namesGroup groups a (moveAt m u) && not (eqb k a)))
+      && (counts u && (namesGroup groups a (moveAt m u) && not (eqb k a)))
 
   -- what the first v moves name is in the sets r
   pub record NamedUpto (v : ℕ) (r : List ℕ) : Type 0 where
@@ -55,12 +55,12 @@ module _ (m : Model) (groups : Grouping) (counted : List ℕ) where
   -- one more move
   module _ {v : ℕ} {r : List ℕ} (n : NamedUpto v r) where
     module _ {own x t : ℕ} (h : own < 32) (e : own ≡ groupOf groups (moveAt m v .machine))
-        (names : OutsideNamed groups (moveAt m v) own (getD counted v 0) x) (q : t ≡ union (getD r own 0) x) where
-      joins : (k a : ℕ) → a < 64 → (eqb own k && bit x a) ≡ namesBy k a v
+        (adds : AddsNamed groups (moveAt m v) own (counts v) (getD r own 0) x) (q : t ≡ union (getD r own 0) x) where
+      joins : (k a : ℕ) → a < 64 → (bit (getD r k 0) a || (eqb own k && bit x a)) ≡ (bit (getD r k 0) a || namesBy k a v)
       unfolding namesBy
       joins k a b =
-          rw (← e, names .bits a b)
-          (by-cases (eqb own k) (λ y. rw (y, eqb-true own k y)) (λ f. rw f))
+          rw (← e)
+          (by-cases (eqb own k) (λ y. rw (y, ← eqb-true own k y) (adds .bits a b)) (λ f. rw f))
 
       pub named-next : t < 2 ^ 64 → NamedUpto (v + 1) (set r own t)
       unfolding upTo
@@ -73,23 +73,22 @@ module _ (m : Model) (groups : Grouping) (counted : List ℕ) where
                 (λ y. rw (eqb-true k own y, getD-set-same r own t 0 inside) fits)
                 (λ f. rw (getD-set-other r own k t 0 (eqb-false k own f)) (n .fits k));
             bits = λ k a l b.
-                rw (q, bit-joined r own x k a inside, n .bits k a l b, joins k a b, add-one, any-snoc);
+                rw (q, bit-joined r own x k a inside, joins k a b, n .bits k a l b, add-one, any-snoc);
           }
 
   -- What the moves name altogether
 
   module _ (valid : Valid m) (all-machines : length groups ≡ machineCount m) (k a : ℕ) where
     abbrev moves : List ℕ
-    moves = countedMoves m groups counted k
+    moves = filter counts (movesOf m groups k)
 
     named-listed : any (namesBy k a) (upTo (moveCount m)) ≡ true → any (eqb a) (namedOutside m groups k moves) ≡ true
-    unfolding namesBy namesGroup countedMoves
+    unfolding namesBy namesGroup
     named-listed t =
         let (u, u-in, by) = any-some (namesBy k a) (upTo (moveCount m)) t in
         let of-group = eqb-true _ _ (and-left _ _ by) in
         let rest = and-right (eqb (groupOf groups (moveAt m u .machine)) k) _ by in
-        let counts = and-left _ _ rest in
-        let names = and-right (not (eqb (getD counted u 0) 0)) _ rest in
+        let names = and-right (counts u) _ rest in
         let (g, g-in, on) = any-some _ (moveAt m u .guards) (and-left _ _ names) in
         let other = and-right (namesGroup groups a (moveAt m u)) _ names in
         let of-k = moves-in m groups (upTo-below (moveCount m) u-in) of-group in
@@ -98,11 +97,11 @@ module _ (m : Model) (groups : Grouping) (counted : List ℕ) where
         let below = group-below-count groups (g .machine) (rw all-machines present) in
         any-intro (eqb a)
         (named-in m groups (omega arith) (λ e. eqb-false k a (not-true _ other) (sym e))
-        (u, filter-mem _ of-k counts, g, g-in, same))
+        (u, filter-mem _ of-k (and-left _ _ rest), g, g-in, same))
         (eq-eqb a a refl)
 
     listed-named : any (eqb a) (namedOutside m groups k moves) ≡ true → any (namesBy k a) (upTo (moveCount m)) ≡ true
-    unfolding namesBy namesGroup countedMoves
+    unfolding namesBy namesGroup
     listed-named t =
         let (b, b-in, e) = any-some (eqb a) (namedOutside m groups k moves) t in
         let a-in = Memᴰ·cast (eqb-true a b e) b-in in
@@ -122,13 +121,11 @@ module _ (m : Model) (groups : Grouping) (counted : List ℕ) where
         any-fails (eqb a) _ (λ b l. ne-eqb a b (λ e. omega (arith, named-below m groups k moves l)))
 
   pub named-end : {v : ℕ} {r : List ℕ} → Valid m → length groups ≡ machineCount m → groupCount groups ≤ 32
-      → NamedUpto v r → v ≡ moveCount m → NamedSets m groups counted r
-  named-end {v} {r} valid all-machines few n e =
-      record {
-        bits = λ k a h.
-            by-cases (ltb a 64)
-            (λ t. n .bits k a h (ltb-true a 64 t) ∙ rw e (named-exactly valid all-machines k a))
-            (λ f.
-            bit-past (getD r k 0) a (le-trans (n .fits k) (pow-mono (ltb-false a 64 f)))
-            ∙ sym (none-past valid all-machines k a (omega (arith, ltb-false a 64 f))));
-      }
+      → NamedUpto v r → v ≡ moveCount m
+      → (k a : ℕ) → k < 32 → bit (getD r k 0) a ≡ any (eqb a) (namedOutside m groups k (filter counts (movesOf m groups k)))
+  named-end {v} {r} valid all-machines few n e k a h =
+      by-cases (ltb a 64)
+      (λ t. n .bits k a h (ltb-true a 64 t) ∙ rw e (named-exactly valid all-machines k a))
+      (λ f.
+      bit-past (getD r k 0) a (le-trans (n .fits k) (pow-mono (ltb-false a 64 f)))
+      ∙ sym (none-past valid all-machines k a (omega (arith, ltb-false a 64 f))))

@@ -2,31 +2,33 @@
 -- Assumes nothing.
 use Prim.Native.Nat.{ℕ, suc, _≤_, _<_}
 use mathlib.Core.Path.{_≡_, refl, subst, _∙_}
-use mathlib.Core.List.{List, [], _∷_, List·Memᴰ}
+use mathlib.Core.Logic.{_↔_}
+use mathlib.Core.List.{List, [], List·Memᴰ}
 use mathlib.Core.Bool.{true}
 use native.Mathlib.Omega.{arith}
 use lib.ListN.{getD}
 use Rattle.sheet.specs.Model.{Model, moveCount, moveAt}
-use Rattle.plan.specs.Groups.{Grouping, groupOf, groupCount, movesOf, namedOutside}
-use Rattle.plan.specs.Modes.{size, liveMode}
-use Rattle.plan.specs.Usable.{meets, leads, endMode, joinedBy}
-use Rattle.plan.specs.Reading.{groupsIn, entryAt, boundIn, wellShaped}
+use Rattle.plan.specs.Groups.{Grouping, groupCount, movesOf}
+use Rattle.plan.specs.Modes.{size}
+use Rattle.plan.specs.Usable.{leads, endMode, usable, joinedBy}
+use Rattle.plan.specs.Reading.{groupsIn, entryAt, boundIn, wellShaped, counted}
 use Rattle.plan.specs.Routes.{usableMoves}
 use Rattle.plan.specs.Table.{entryOf}
 use Rattle.plan.specs.Bound.{longest, planBound}
-use Rattle.plan.specs.Meaning.{Route, Usable, EntryRight, here, move, always}
+use Rattle.plan.specs.Meaning.{Route, Usable, EntryRight, here, move}
 use Rattle.plan.specs.Laws.{TableLaws, RouteLaws, CostLaws, PlanLaws, Connects, IsDistance}
-use Rattle.plan.specs.Reading.{counted, everyMove}
+use Rattle.plan.specs.Shown.{routeIn, usableIn}
 use Rattle.plan.proofs.Named.{named-below}
-use Rattle.plan.proofs.Routes.{allRoutes}
-use Rattle.plan.proofs.Words.{live-means, meets-means, named-means}
+use Rattle.plan.proofs.Routes.{allRoutes, SameIn, usable-cong}
+use Rattle.plan.proofs.Words.{live-means}
 use Rattle.plan.proofs.Steps.{endMode-step, step-own, step-leads, step-endMode}
-use Rattle.plan.proofs.Usable.{Ordered, stays-live}
-use Rattle.plan.proofs.Distances.{route-append, route-zero, between-longest}
+use Rattle.plan.proofs.Usable.{Ordered, usable-means, stays-live}
+use Rattle.plan.proofs.Distances.{routes-length, route-append, route-zero, between-longest}
 use Rattle.plan.proofs.Entries.{entry-near, near-of-distance, entry-route, entry-at-most, entry-connects}
 use Rattle.plan.proofs.Entries.{entry-right}
 use Rattle.plan.proofs.EntryBytes.{entry-bytes}
-use Rattle.plan.proofs.Counted.{counted-all}
+use Rattle.plan.proofs.EntryRoutes.{entry-tells}
+use Rattle.plan.proofs.Counted.{counted-usable}
 use Rattle.plan.proofs.Costs.{costOf, cost-rule, bound-sum}
 
 -- what a plan says over these groups is what is computed from them
@@ -45,7 +47,8 @@ longestOf m groups k = longest (getD (allRoutes m groups) k [])
 
 -- the laws, said of given groups
 abbrev pub LawsFor : Model → List ℕ → Grouping → Type 0
-LawsFor m plan groups = PlanLaws m plan everyMove (Usable m groups) (longestOf m groups) (costOf m groups (allRoutes m groups))
+LawsFor m plan groups =
+    PlanLaws m plan (usableIn m plan) (Usable m groups) (longestOf m groups) (costOf m groups (allRoutes m groups))
 
 module _ (m : Model) (groups : Grouping) (plan : List ℕ) (reads : ReadsBack m groups plan) where
   module _ (k p q : ℕ) (h : k < groupCount groups) (hp : p < size m groups k) (hq : q < size m groups k) where
@@ -83,19 +86,6 @@ module _ (m : Model) (groups : Grouping) (plan : List ℕ) (reads : ReadsBack m 
       rw (reads .entry-read k p q h hp hq)
       (omega (arith, entry-bytes (reads .ordered) h (reads .small k h) p q hp hq .0))
 
-  -- a usable move's needs on an outside group can be met from every live mode
-  pub own-met : (v a p : ℕ) → v < moveCount m → Usable m groups v
-      → List·Memᴰ a (namedOutside m groups (groupOf groups (moveAt m v .machine)) (v ∷ []))
-      → p < size m groups a → liveMode m groups a p ≡ true
-      → (q : ℕ) × (q < size m groups a) × (meets m groups a (moveAt m v) q ≡ true) × Connects m plan a p q
-  own-met v a p h (always to steps ends ways) l hp t =
-      let o = reads .ordered in
-      let n = named-means m groups (o .all-machines) (o .valid) a h .0 l in
-      let live = live-means m groups (o .all-machines) a p .0 t in
-      let (below, met) = ends a p n hp live in
-      let c = own-connects a p (to a p) (named-below m groups _ _ l) hp below (ways a p n hp live) in
-      (to a p, below, meets-means m groups v a _ .1 met, c)
-
 -- The laws, over the groups that the plan writes
 
 module _ (m : Model) (plan : List ℕ) (reads : ReadsBack m (groupsIn m plan) plan) where
@@ -126,16 +116,30 @@ module _ (m : Model) (plan : List ℕ) (reads : ReadsBack m (groupsIn m plan) pl
         rw (step-endMode m (o .valid) own (o .all-machines) s) (own-at-most m own plan reads k r q h (s .wanted) hq on),
       )
 
-  table-laws : TableLaws m plan everyMove (Usable m own) (longestOf m own)
+  -- the routes that the entries show are the computed ones
+  shown-joined : (a : ℕ) → a < groupCount own → SameIn m own (routeIn m plan) (joinedBy (allRoutes m own)) a
+  shown-joined a h p q hp hq =
+      let whole = routes-length o h in
+      let small = reads .small a h in
+      rw (reads .entry-read a p q h hp hq) (entry-tells m own a _ _ p q (omega arith) (omega arith))
+
+  -- so the moves that are usable by the entries are the usable ones
+  shown-usable : (v : ℕ) → usableIn m plan v ≡ usable m own (joinedBy (allRoutes m own)) v
+  unfolding usableIn
+  shown-usable v = usable-cong m own _ _ v (λ a l. shown-joined a (named-below m own _ _ l))
+
+  pub usable-by-entries : (v : ℕ) → v < moveCount m → (usableIn m plan v ≡ true) ↔ Usable m own v
+  usable-by-entries v h = rw (shown-usable v) (usable-means o v h)
+
+  table-laws : TableLaws m plan (usableIn m plan) (Usable m own) (longestOf m own)
   table-laws =
       record {
         shaped = reads .shaped;
-        usable-counts = λ v h u. refl;
+        usable-counts = λ v h u. usable-by-entries v h .1 u;
         byte-entries = own-bytes m own plan reads;
         zero-self = λ k p h hp. entries k p p h hp hp .itself refl .0;
         self-zero = λ k p q h hp hq z. route-zero (entries k p q h hp hq .shortest 0 (λ e. omega arith) .0 z .0);
         first-move = own-first;
-        always-met = own-met m own plan reads;
         at-most-longest = own-longest m own plan reads;
       }
 
@@ -152,10 +156,10 @@ module _ (m : Model) (plan : List ℕ) (reads : ReadsBack m (groupsIn m plan) pl
             live q .1 (stays-live (o .valid) own k _ p q (route k p q h hp hq i) (live p .0 t));
       }
 
-  cost-laws : CostLaws m plan (counted m plan everyMove) (longestOf m own) (costOf m own (allRoutes m own))
+  cost-laws : CostLaws m plan (counted m plan (usableIn m plan)) (longestOf m own) (costOf m own (allRoutes m own))
   cost-laws =
       record {
-        cost-is = λ k h. rw (counted-all m plan k) (cost-rule m own (allRoutes m own) (o .first) h);
+        cost-is = λ k h. rw (counted-usable m plan _ _ shown-usable k) (cost-rule m own (allRoutes m own) (o .first) h);
         bound-is = reads .bound-read ∙ bound-sum m own (allRoutes m own);
       }
 
@@ -164,6 +168,11 @@ module _ (m : Model) (plan : List ℕ) (reads : ReadsBack m (groupsIn m plan) pl
       record { tables = table-laws; routes = route-laws; costs = cost-laws }
 
 -- and over the computed groups, where the plan writes these
-pub own-laws : (m : Model) (plan : List ℕ) {groups : Grouping} → groupsIn m plan ≡ groups
-    → ReadsBack m groups plan → LawsFor m plan groups
-own-laws m plan e = subst (λ own. ReadsBack m own plan → LawsFor m plan own) e (laws-of-plan m plan)
+module _ (m : Model) (plan : List ℕ) {groups : Grouping} (e : groupsIn m plan ≡ groups) where
+  pub own-laws : ReadsBack m groups plan → LawsFor m plan groups
+  own-laws = subst (λ own. ReadsBack m own plan → LawsFor m plan own) e (laws-of-plan m plan)
+
+  pub own-usable : ReadsBack m groups plan → (v : ℕ) → v < moveCount m → (usableIn m plan v ≡ true) ↔ Usable m groups v
+  own-usable =
+      subst (λ own. ReadsBack m own plan → (v : ℕ) → v < moveCount m → (usableIn m plan v ≡ true) ↔ Usable m own v) e
+      (usable-by-entries m plan)

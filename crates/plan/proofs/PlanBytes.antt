@@ -19,7 +19,7 @@ use Rattle.plan.specs.Groups.{groupCount, groupsOf}
 use Rattle.plan.specs.Modes.{size}
 use Rattle.plan.specs.Table.{tableOf}
 use Rattle.plan.specs.Bound.{planBound}
-use Rattle.plan.specs.Bytes.{fourBytes, tableIn, bytesOf}
+use Rattle.plan.specs.Bytes.{fourBytes, tableIn, bytesWith}
 use Rattle.plan.specs.Planning.{ownPlan}
 use Rattle.plan.specs.Promised.{SmallGroups}
 use Rattle.plan.proofs.Groups.{group-below-machines}
@@ -51,7 +51,7 @@ module _ {m : Model} (valid : Valid m) (small : SmallGroups m (groupsOf m)) wher
       one-more-byte _ _ (b .0) (one-more-byte _ _ (b .1) no-bytes)))
 
   pub plan-is-bytes : (i : ℕ) → byte (ownPlan m) i < 256
-  unfolding ownPlan bytesOf
+  unfolding ownPlan bytesWith
   plan-is-bytes =
       let own = groupsOf m in
       byte-of-bytes (ownPlan m)

@@ -1,11 +1,12 @@
 -- Demand 2, whole: the plan that planning wrote is right, and it has the laws that arrival rests on.
 -- Assumes nothing.
-use Prim.Native.Nat.{ℕ}
+use Prim.Native.Nat.{ℕ, _<_}
 use mathlib.Core.Path.{_≡_, sym, subst}
+use mathlib.Core.Logic.{_↔_}
 use mathlib.Core.List.{List}
 use native.Mathlib.Omega.{arith}
 use Rattle.common.specs.Reply.{given}
-use Rattle.sheet.specs.Model.{Model}
+use Rattle.sheet.specs.Model.{Model, moveCount}
 use Rattle.sheet.specs.Valid.{Valid}
 use Rattle.sheet.specs.Parse.{Parsed, parse}
 use Rattle.sheet.proofs.Parsed.{parse-valid}
@@ -13,8 +14,10 @@ use Rattle.plan.specs.Groups.{groupsOf}
 use Rattle.plan.specs.Reading.{groupsIn, boundIn}
 use Rattle.plan.specs.Planning.{planReply, ownPlan}
 use Rattle.plan.specs.Shape.{Shaped}
-use Rattle.plan.specs.Promised.{UsableRight, PlanRight, Planned}
+use Rattle.plan.specs.Promised.{UsableRight, OwnUsable, PlanRight, Planned, ownBound}
 use Rattle.plan.specs.Laws.{Lawful}
+use Rattle.plan.specs.Meaning.{Usable}
+use Rattle.plan.specs.Shown.{UsableUnder}
 use Rattle.plan.proofs.ModesRight.{modes-right}
 use Rattle.plan.proofs.Groups.{groups-right, gapless-test, needs-first-test}
 use Rattle.plan.proofs.Routes.{allRoutes}
@@ -24,21 +27,22 @@ use Rattle.plan.proofs.ReadBack.{plan-laid, entry-back, bound-back}
 use Rattle.plan.proofs.Shape.{laid-shaped, shape-passes}
 use Rattle.plan.proofs.PlanBytes.{plan-is-bytes}
 use Rattle.plan.proofs.Planning.{length-groupsOf, Accepted, accepted-length, plan-accepted}
-use Rattle.plan.proofs.OwnLaws.{ReadsBack, LawsFor, own-entry, own-laws}
+use Rattle.plan.proofs.OwnLaws.{ReadsBack, LawsFor, own-entry, own-laws, own-usable}
 use Rattle.plan.proofs.Bounds.{bound-right, few-moves}
+use Rattle.plan.proofs.Shown.{usable-shown}
 
 module _ (m : Model) (valid : Valid m) where
   -- the sheet's own plan reads back as what was computed
   pub own-groups : groupsIn m (ownPlan m) ≡ groupsOf m
   unfolding ownPlan
-  own-groups = groups-read (plan-laid m (groupsOf m) (allRoutes m (groupsOf m)) (length-groupsOf m))
+  own-groups = groups-read (plan-laid m (groupsOf m) (allRoutes m (groupsOf m)) (length-groupsOf m) (ownBound m))
 
   module _ {buffer scratch : ℕ} (a : Accepted m (ownPlan m) buffer scratch) where
     pub own-shaped : Shaped m (ownPlan m)
     unfolding ownPlan
     own-shaped =
         let g = groups-right m valid in
-        laid-shaped (plan-laid m (groupsOf m) (allRoutes m (groupsOf m)) (length-groupsOf m))
+        laid-shaped (plan-laid m (groupsOf m) (allRoutes m (groupsOf m)) (length-groupsOf m) (ownBound m))
         (gapless-test g) (needs-first-test valid g) (a .small-groups)
 
     pub own-reads : ReadsBack m (groupsOf m) (ownPlan m)
@@ -49,8 +53,8 @@ module _ (m : Model) (valid : Valid m) where
           ordered = own-ordered valid;
           small = a .small-groups;
           shaped = shape-passes own-shaped valid;
-          entry-read = entry-back m (groupsOf m) (allRoutes m (groupsOf m)) n;
-          bound-read = bound-back m (groupsOf m) (allRoutes m (groupsOf m)) n (omega (arith, a .small-bound));
+          entry-read = entry-back m (groupsOf m) (allRoutes m (groupsOf m)) n (ownBound m);
+          bound-read = bound-back m (groupsOf m) (allRoutes m (groupsOf m)) n (ownBound m) (omega (arith, a .small-bound));
         }
 
     pub own-right : PlanRight m (ownPlan m)
@@ -74,21 +78,36 @@ module _ (m : Model) (valid : Valid m) where
     pub own-lawful : LawsFor m (ownPlan m) (groupsOf m)
     own-lawful = own-laws m (ownPlan m) own-groups own-reads
 
-pub planned : Planned
-planned sheet plan buffer scratch d e r =
-    let a = plan-accepted sheet d e buffer scratch r in
-    let v = parse-valid sheet e in
-    subst (PlanRight (d .model)) (sym (a .own))
-    (own-right (d .model) v (subst (λ p. Accepted (d .model) p buffer scratch) (a .own) a))
+    pub own-told : (v : ℕ) → v < moveCount m → UsableUnder m (ownPlan m) v ↔ Usable m (groupsOf m) v
+    own-told v h =
+        let shown = usable-shown m valid (ownPlan m) (own-reads .shaped) v h in
+        let means = own-usable m (ownPlan m) own-groups own-reads v h in
+        (λ u. means .0 (shown .1 u), λ u. shown .0 (means .1 u))
 
--- the plan that planning wrote has the laws that arrival rests on
+-- what holds of a sheet's own plan where it is accepted holds of the plan that planning wrote
+of-planned : (P : Model → List ℕ → Type 0)
+    → ((m : Model) (buffer scratch : ℕ) → Valid m → Accepted m (ownPlan m) buffer scratch → P m (ownPlan m))
+    → (sheet plan : List ℕ) (buffer scratch : ℕ) (d : Parsed) → parse sheet ≡ given d
+    → planReply sheet buffer scratch ≡ given plan → P (d .model) plan
+of-planned P f sheet plan buffer scratch d e r =
+    let a = plan-accepted sheet d e buffer scratch r in
+    subst (P (d .model)) (sym (a .own))
+    (f (d .model) buffer scratch (parse-valid sheet e) (subst (λ p. Accepted (d .model) p buffer scratch) (a .own) a))
+
+pub planned : Planned
+planned = of-planned PlanRight (λ m buffer scratch valid. own-right m valid)
+
+-- it has the laws that arrival rests on
 pub planned-lawful : (sheet plan : List ℕ) (buffer scratch : ℕ) (d : Parsed) → parse sheet ≡ given d
     → planReply sheet buffer scratch ≡ given plan → LawsFor (d .model) plan (groupsOf (d .model))
-planned-lawful sheet plan buffer scratch d e r =
-    let a = plan-accepted sheet d e buffer scratch r in
-    let v = parse-valid sheet e in
-    subst (λ p. LawsFor (d .model) p (groupsOf (d .model))) (sym (a .own))
-    (own-lawful (d .model) v (subst (λ p. Accepted (d .model) p buffer scratch) (a .own) a))
+planned-lawful =
+    of-planned (λ m plan. LawsFor m plan (groupsOf m)) (λ m buffer scratch valid. own-lawful m valid)
+
+-- and its entries tell the usable moves
+pub planned-usable : OwnUsable
+planned-usable =
+    of-planned (λ m plan. (v : ℕ) → v < moveCount m → UsableUnder m plan v ↔ Usable m (groupsOf m) v)
+    (λ m buffer scratch valid. own-told m valid)
 
 pub lawful : Lawful
 lawful sheet plan buffer scratch d e r = (_, _, planned-lawful sheet plan buffer scratch d e r)

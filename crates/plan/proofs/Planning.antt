@@ -38,7 +38,7 @@ length-groupsOf m =
 
 pub length-ownPlan : (m : Model) → length (ownPlan m) ≡ planLength m (groupsOf m)
 unfolding ownPlan
-length-ownPlan m = laid-length (plan-laid m (groupsOf m) _ (length-groupsOf m))
+length-ownPlan m = laid-length (plan-laid m (groupsOf m) _ (length-groupsOf m) _)
 
 -- what a sheet has passed that is planned
 pub record Accepted (m : Model) (plan : List ℕ) (buffer scratch : ℕ) : Type 0 where

@@ -1,12 +1,13 @@
 -- Numbers below 32 for a sheet's machines: they fit the arrays, and what is kept of their groups.
 -- Assumes nothing.
 use Prim.Native.Nat.{ℕ, _≤_, _<_}
-use mathlib.Core.Path.{_≡_, ap, _∙_}
+use mathlib.Core.Path.{_≡_, sym, ap, _∙_}
 use mathlib.Core.List.{List}
 use mathlib.Core.Bool.{not}
 use native.Mathlib.Omega.{arith}
 use lib.Dec.{eqb}
-use lib.ListN.{length, getD, replicate, getD-replicate}
+use lib.ListN.{length, getD, take, replicate, getD-replicate}
+use lib.Seq.{length-take-le}
 use Rattle.common.specs.Bits.{bit}
 use Rattle.common.specs.Lists.{any}
 use Rattle.common.proofs.Lists.{all-intro, filter-all}
@@ -14,10 +15,10 @@ use Rattle.sheet.specs.declared.index.Sheet.{Sheet}
 use Rattle.sheet.specs.Model.{Model}
 use Rattle.sheet.specs.Valid.{Valid}
 use Rattle.sheet.specs.Kept.Indexed.{Indexes}
-use Rattle.sheet.proofs.Indexed.{indexes-valid, indexes-machines, indexes-array}
+use Rattle.sheet.proofs.Indexed.{indexes-valid, indexes-machines, indexes-array, indexes-room}
 use Rattle.plan.specs.Groups.{Grouping, movesOf, namedOutside}
 use Rattle.plan.specs.Kept.Sizes.{SmallNumbers}
-use Rattle.plan.specs.Kept.Partition.{Numbers, countedMoves, NamedSets}
+use Rattle.plan.specs.Kept.Partition.{Numbers, Numbered, countedMoves, NamedSets}
 use Rattle.plan.proofs.Named.{moves-below}
 
 module _ {s : List ℕ} {x : Sheet} {m : Model} (i : Indexes s x m) {numbers : List ℕ} (n : Numbers x numbers) where
@@ -26,6 +27,13 @@ module _ {s : List ℕ} {x : Sheet} {m : Model} (i : Indexes s x m) {numbers : L
 
   pub numbers-small : SmallNumbers numbers (x .modes)
   numbers-small = record { few = numbers-few; below = n .below; counted = omega (arith, numbers-few, indexes-array i) }
+
+  pub numbers-of : Numbered m numbers
+  numbers-of = record { valid = indexes-valid i; one-each = n .one-each ∙ indexes-machines i; below = n .below }
+
+-- the moves' bodies, as they are lent
+pub bodies-lent : {s : List ℕ} {x : Sheet} {m : Model} → Indexes s x m → x .moves ≡ length (take (x .moves) (x .bodies))
+bodies-lent i = sym (length-take-le _ _ (indexes-room i))
 
 -- where each of 250 bytes is 1, all moves count
 pub all-counted : (m : Model) (groups : Grouping) → Valid m → (k : ℕ)

@@ -6,7 +6,9 @@ use lib.ListN.{length, getD}
 use Rattle.common.specs.Lists.{upTo, sum, maximum}
 use Rattle.common.specs.Graph.{Matrix, between, connected}
 use Rattle.sheet.specs.Model.{Model}
-use Rattle.plan.specs.Groups.{Grouping, groupCount, movesOf, namedOutside}
+use Rattle.plan.specs.Groups.{Grouping, groupCount, namedOutside}
+use Rattle.plan.specs.Usable.{joinedBy}
+use Rattle.plan.specs.Routes.{usableMoves}
 
 -- L of a group: the distance of its farthest two modes that a route joins
 unfoldable pub longest : Matrix → ℕ
@@ -31,6 +33,6 @@ module _ (m : Model) (groups : Grouping) (counting : ℕ → List ℕ) (routes :
   unfoldable pub boundOf : ℕ
   boundOf = sum (costsUpto (groupCount groups))
 
--- the bound that planning writes: all moves count
+-- the bound that planning writes: the usable moves count
 unfoldable pub planBound : Model → Grouping → List Matrix → ℕ
-planBound m groups routes = boundOf m groups (movesOf m groups) routes
+planBound m groups routes = boundOf m groups (usableMoves m groups (joinedBy routes)) routes

@@ -22,13 +22,17 @@ module _ (m : Model) (groups : Grouping) where
   unfoldable pub tableIn : List Matrix → ℕ → List ℕ
   tableIn routes k = tableOf m groups k (usableMoves m groups (joinedBy routes) k) (getD routes k [])
 
-  -- group numbers (16), a table for each group (17), the bound (18), the end (3)
-  unfoldable pub bytesOf : List Matrix → List ℕ
-  bytesOf routes =
+  -- group numbers (16), a table for each group (17), a bound (18), the end (3)
+  unfoldable pub bytesWith : ℕ → List Matrix → List ℕ
+  bytesWith bound routes =
       recordOf 16 groups
       ++ flatMap (λ k. recordOf 17 (tableIn routes k)) (upTo (groupCount groups))
-      ++ recordOf 18 (fourBytes (planBound m groups routes))
+      ++ recordOf 18 (fourBytes bound)
       ++ recordOf 3 []
+
+  -- with the bound that planning writes
+  abbrev pub bytesOf : List Matrix → List ℕ
+  bytesOf routes = bytesWith (planBound m groups routes) routes
 
   -- the length of a group's table
   unfoldable pub tableLength : ℕ → ℕ

@@ -8,4 +8,5 @@ pub mod Making
 pub mod ModeSets
 pub mod Outline
 pub mod Partition
+pub mod Showing
 pub mod Sizes

@@ -1,18 +1,19 @@
 -- The laws of a plan that arrival rests on, and no others: any plan that has them earns demand 3.
 use Prim.Native.Nat.{ℕ, suc, _+_, _*_, _≤_, _<_}
 use mathlib.Core.Path.{_≡_}
-use mathlib.Core.List.{List, _∷_, [], map, List·Memᴰ}
+use mathlib.Core.List.{List, map, List·Memᴰ}
 use mathlib.Core.Bool.{Bool, true}
 use Rattle.common.specs.Lists.{upTo, sum}
 use Rattle.common.specs.Reply.{given}
 use Rattle.sheet.specs.Model.{Model, moveCount, moveAt}
 use Rattle.sheet.specs.Parse.{Parsed, parse}
-use Rattle.plan.specs.Groups.{Grouping, groupOf, groupCount, groupsOf, movesOf, namedOutside}
+use Rattle.plan.specs.Groups.{Grouping, groupCount, groupsOf, movesOf, namedOutside}
 use Rattle.plan.specs.Modes.{size, liveMode}
-use Rattle.plan.specs.Usable.{meets, leads, endMode}
+use Rattle.plan.specs.Usable.{leads, endMode}
 use Rattle.plan.specs.Meaning.{Usable}
 use Rattle.plan.specs.Planning.{planReply}
-use Rattle.plan.specs.Reading.{groupsIn, entryAt, boundIn, wellShaped, counted, everyMove}
+use Rattle.plan.specs.Reading.{groupsIn, entryAt, boundIn, wellShaped, counted}
+use Rattle.plan.specs.Shown.{usableIn}
 
 -- a distance of the plan that is a route
 abbrev pub IsDistance : Model → List ℕ → ℕ → ℕ → ℕ → ℕ → Type 0
@@ -45,11 +46,6 @@ module _ (m : Model) (plan : List ℕ) where
         → List·Memᴰ (entryAt m plan k p q .move) (movesOf m groups k) × IsUsable (entryAt m plan k p q .move)
         × (leads m groups k (moveAt m (entryAt m plan k p q .move)) p ≡ true)
         × (entryAt m plan k (endMode m groups k (moveAt m (entryAt m plan k p q .move)) p) q .distance ≤ d)
-    -- a usable move's needs on an outside group can be met from every live mode
-    pub always-met : (v a p : ℕ) → v < moveCount m → IsUsable v
-        → List·Memᴰ a (namedOutside m groups (groupOf groups (moveAt m v .machine)) (v ∷ []))
-        → p < size m groups a → liveMode m groups a p ≡ true
-        → (q : ℕ) × (q < size m groups a) × (meets m groups a (moveAt m v) q ≡ true) × Connects m plan a p q
     -- no route is longer than L
     pub at-most-longest : (k p q : ℕ) → k < groupCount groups → p < size m groups k → q < size m groups k → Connects m plan k p q
         → entryAt m plan k p q .distance ≤ longest k
@@ -79,4 +75,5 @@ module _ (m : Model) (plan : List ℕ) where
 abbrev pub Lawful : Type 0
 Lawful =
     (sheet plan : List ℕ) (buffer scratch : ℕ) (d : Parsed) → parse sheet ≡ given d → planReply sheet buffer scratch ≡ given plan
-    → (longest : ℕ → ℕ) × (cost : ℕ → ℕ) × PlanLaws (d .model) plan everyMove (Usable (d .model) (groupsOf (d .model))) longest cost
+    → (longest : ℕ → ℕ) × (cost : ℕ → ℕ)
+    × PlanLaws (d .model) plan (usableIn (d .model) plan) (Usable (d .model) (groupsOf (d .model))) longest cost

@@ -12,5 +12,6 @@ pub mod Reading
 pub mod Routes
 pub mod Says
 pub mod Shape
+pub mod Shown
 pub mod Table
 pub mod Usable

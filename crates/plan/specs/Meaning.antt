@@ -112,10 +112,10 @@ module _ (m : Model) (groups : Grouping) where
         → ShortestRoute k d p q → d ≤ longest k
     pub one-as-long : (k : ℕ) → k < groupCount groups
         → (p : ℕ) × (q : ℕ) × (p < size m groups k) × (q < size m groups k) × ShortestRoute k (longest k) p q
-    -- the outside groups that the moves of k name, each once
+    -- the outside groups that the usable moves of k name, each once
     pub named : ℕ → List ℕ
     pub named-exactly : (k a : ℕ) → k < groupCount groups
-        → List·Memᴰ a (named k) ↔ ((v : ℕ) × MoveOf v k × NamesOutside v a)
+        → List·Memᴰ a (named k) ↔ ((v : ℕ) × MoveOf v k × Usable v × NamesOutside v a)
     pub named-once : (k i : ℕ) → suc i < length (named k) → getD (named k) i 0 < getD (named k) (suc i) 0
     pub cost : ℕ → ℕ
     pub cost-is : (k : ℕ) → k < groupCount groups → cost k ≡ longest k * (1 + sum (map cost (named k)))

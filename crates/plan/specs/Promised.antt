@@ -11,16 +11,17 @@ use Rattle.sheet.specs.Record.{byte}
 use Rattle.sheet.specs.Model.{Model, moveCount}
 use Rattle.sheet.specs.Valid.{Valid}
 use Rattle.sheet.specs.Parse.{Parsed, parse}
-use Rattle.plan.specs.Groups.{Grouping, groupOf, groupCount, groupsOf}
+use Rattle.plan.specs.Groups.{Grouping, groupOf, groupCount, groupsOf, movesOf}
 use Rattle.plan.specs.Modes.{size}
 use Rattle.plan.specs.Usable.{usable, joinedBy}
 use Rattle.plan.specs.Routes.{routesUpto}
-use Rattle.plan.specs.Bound.{planBound}
-use Rattle.plan.specs.Bytes.{planLength}
+use Rattle.plan.specs.Bound.{boundOf, planBound}
+use Rattle.plan.specs.Bytes.{tableAt, planLength, bytesWith}
 use Rattle.plan.specs.Planning.{lengthReply, planReply, ownPlan, bufferAfter, scratchAfter}
 use Rattle.plan.specs.Reading.{groupsIn, entryAt, boundIn}
 use Rattle.plan.specs.Meaning.{GroupsRight, Live, Route, Usable, ShortestRoute, EntryRight, BoundRight, ModesRight}
 use Rattle.plan.specs.Shape.{Shaped}
+use Rattle.plan.specs.Shown.{UsableUnder}
 
 -- What is computed as usable is what is usable.
 abbrev pub UsableRight : Model → Grouping → Type 0
@@ -50,6 +51,30 @@ ownBound m = planBound m (groupsOf m) (routesUpto m (groupsOf m) (groupCount (gr
 -- The bound of every sheet that passes 1 to 8, accepted or not, is the sum of the costs.
 abbrev pub BoundsRight : Type 0
 BoundsRight = (m : Model) → Valid m → BoundRight m (groupsOf m) (ownBound m)
+
+-- Before, every move of a group counted as naming other groups: the bound, and the plan with that bound.
+abbrev pub boundByAll : Model → ℕ
+boundByAll m = boundOf m (groupsOf m) (movesOf m (groupsOf m)) (routesUpto m (groupsOf m) (groupCount (groupsOf m)))
+
+abbrev pub planByAll : Model → List ℕ
+planByAll m = bytesWith m (groupsOf m) (boundByAll m) (routesUpto m (groupsOf m) (groupCount (groupsOf m)))
+
+-- The bound is never larger than that; but for it, plans are as they were; and what was accepted is accepted.
+pub record StillPlanned (sheet : List ℕ) (m : Model) : Type 0 where
+  pub never-larger : ownBound m ≤ boundByAll m
+  pub as-long : length (ownPlan m) ≡ length (planByAll m)
+  pub tables-kept : (i : ℕ) → i < tableAt m (groupsOf m) (groupCount (groupsOf m)) → byte (ownPlan m) i ≡ byte (planByAll m) i
+  pub accepted : (buffer scratch : ℕ) → SmallGroups m (groupsOf m) → squares m (groupsOf m) ≤ 16384 → boundByAll m ≤ 65535
+      → buffer ≡ planLength m (groupsOf m) → 512 ≤ scratch → planReply sheet buffer scratch ≡ given (ownPlan m)
+
+abbrev pub PlannedStill : Type 0
+PlannedStill = (sheet : List ℕ) (d : Parsed) → parse sheet ≡ given d → StillPlanned sheet (d .model)
+
+-- Under the plan that planning wrote, usable by its entries is usable.
+abbrev pub OwnUsable : Type 0
+OwnUsable =
+    (sheet plan : List ℕ) (buffer scratch : ℕ) (d : Parsed) → parse sheet ≡ given d → planReply sheet buffer scratch ≡ given plan
+    → (v : ℕ) → v < moveCount (d .model) → UsableUnder (d .model) plan v ↔ Usable (d .model) (groupsOf (d .model)) v
 
 -- 9 to 12 are tested in this order, and the first that applies refuses; the length is refused for 9 and 10 alone.
 pub record RepliesRight (sheet : List ℕ) (m : Model) (buffer scratch : ℕ) : Type 0 where

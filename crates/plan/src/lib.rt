@@ -10,6 +10,7 @@ pub mod partition;
 pub mod passing;
 pub mod promises;
 pub mod reading;
+pub mod showing;
 pub mod sizing;
 pub mod standing;
 pub mod tabling;

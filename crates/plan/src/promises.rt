@@ -6,8 +6,9 @@ ghost use Rattle.sheet.specs.Valid.{Valid};
 ghost use Rattle.plan.specs.Groups.{groupsOf};
 ghost use Rattle.plan.specs.Laws.{Lawful};
 ghost use Rattle.plan.specs.Meaning.{GroupsRight, ModesRight};
-ghost use Rattle.plan.specs.Promised.{BoundsRight, LeftRight, Planned, Replied, ScratchRight, SheetFirst, UsableRight};
+ghost use Rattle.plan.specs.Promised.{BoundsRight, LeftRight, OwnUsable, Planned, PlannedStill, Replied, ScratchRight, SheetFirst, UsableRight};
 ghost use Rattle.plan.specs.Shape.{ShapesRight};
+ghost use Rattle.plan.specs.Shown.{ShownRight};
 
 // The groups of a sheet are its sets of mutual need, and the needed ones have lower numbers.
 pub fn groups_are_right()
@@ -27,6 +28,12 @@ pub fn usable_is_right()
 // The bound of every sheet that passes 1 to 8 is the sum of the costs.
 pub fn bounds_are_right()
     ensures { λ _. ⌜ BoundsRight ⌝ }
+{}
+
+// No bound is larger than it would be if every move counted; what would be accepted then is accepted, and but for the bound the plan is the
+// same.
+pub fn planned_is_planned_still()
+    ensures { λ _. ⌜ PlannedStill ⌝ }
 {}
 
 // The replies of planning and of the plan's length: 9 to 12, the first that applies.
@@ -52,6 +59,16 @@ pub fn buffers_are_left_right()
 // A plan of bytes passes the test of its shape exactly if it has it, and what is read in it stands in its records.
 pub fn shapes_are_right()
     ensures { λ _. ⌜ ShapesRight ⌝ }
+{}
+
+// Which moves are usable by the routes that a plan shows, under any plan in shape; these count for upstream.
+pub fn shown_is_right()
+    ensures { λ _. ⌜ ShownRight ⌝ }
+{}
+
+// Under the plan that planning wrote these are the usable moves.
+pub fn own_usable_is_right()
+    ensures { λ _. ⌜ OwnUsable ⌝ }
 {}
 
 // Demand 2: the plan that planning wrote is right, entry by entry, with its bound and its bytes.

@@ -11,9 +11,11 @@ use Rattle.common.specs.Lists.{upTo, any, pad}
 use Rattle.common.specs.Reply.{clear}
 use Rattle.sheet.specs.Record.{part}
 use Rattle.sheet.specs.Model.{Move, Model, machineCount, modeCount}
+use Rattle.sheet.specs.declared.index.Sheet.{Sheet}
 use Rattle.sheet.specs.Kept.Indexed.{Indexes}
 pub use Rattle.sheet.specs.Kept.Indexed.{Listed}
 use Rattle.sheet.specs.Valid.{Valid}
+use Rattle.plan.specs.declared.partition.Groups.{Groups}
 use Rattle.plan.specs.Groups.{Grouping, groupOf, groupCount, namedOutside}
 use Rattle.plan.specs.Modes.{size}
 use Rattle.plan.specs.Kept.ModeSets.{ModesHeld}
@@ -21,8 +23,10 @@ use Rattle.plan.specs.Bytes.{tableAt}
 use Rattle.plan.specs.Table.{Entry}
 use Rattle.plan.specs.Reading.{groupsIn, entryAt, wellShaped}
 use Rattle.plan.specs.Kept.Outline.{Outlined}
+use Rattle.plan.specs.Kept.Partition.{MemberSets}
+use Rattle.plan.specs.Kept.Showing.{Lives}
+pub use Rattle.plan.specs.Kept.Showing.{NamedBy}
 use Rattle.plan.specs.Reading.{counted, everyMove}
-use Rattle.plan.specs.declared.opening.Outline.{Outline}
 use Rattle.command.specs.State.{modeOf, stateFaults}
 use Rattle.command.specs.Goal.{Masks, anyMode, met, allowed}
 use Rattle.command.specs.Ancestors.{upstreamIn}
@@ -35,11 +39,13 @@ pub record Allows (m : Model) (masks : Masks) (array : List ℕ) : Type 0 where
       → bit (getD array i 0) mode ≡ bit (getD masks i anyMode) mode
   pub within : (i : ℕ) → i < machineCount m → beyond (modeCount m i) (getD array i 0) ≡ false
 
--- a sheet that passes, a plan in shape for it, and what is kept of both
-pub record Opened (m : Model) (file plan : List ℕ) (r : Outline) : Type 0 where
-  pub indexes : Indexes file (r .sheet) m
+-- a sheet that passes, a plan in shape for it, and what is kept of both: the sheet's index x, the groups g, and the starts of their
+-- records
+pub record Opened (m : Model) (file plan : List ℕ) (x : Sheet) (g : Groups) (starts : List ℕ) : Type 0 where
+  pub indexes : Indexes file x m
   pub shaped : wellShaped m plan ≡ true
-  pub outlined : Outlined (r .sheet) m plan r
+  pub outlined : Outlined m plan g starts
+  pub long : length starts ≡ 33
 
 -- a state that passes 13, for a plan in shape, by the plan's numbers
 pub record Placed (m : Model) (plan state numbers : List ℕ) : Type 0 where
@@ -60,19 +66,24 @@ numbersIn facts n = part facts 0 n
 unfoldable pub weightsIn : List ℕ → List ℕ
 weightsIn facts = part facts 32 32
 
+unfoldable pub sizesIn : List ℕ → List ℕ
+sizesIn facts = part facts 64 32
+
 unfoldable pub sizeIn : List ℕ → ℕ → ℕ
 sizeIn facts k = getD facts (64 + k) 0
 
 unfoldable pub presentIn : List ℕ → ℕ → ℕ
 presentIn facts k = getD facts (96 + k) 0
 
--- a question about a state, under a plan: its facts, the group modes in which each machine is in mode 0, and where the
--- tables begin
+-- a question about a state, under a plan: its facts, the group modes in which each machine is in mode 0 with the live modes of each
+-- group behind them, and where the tables begin
 pub record Kept (m : Model) (plan state facts zeros starts : List ℕ) : Type 0 where
   pub long : length facts ≡ 128
   pub starts-long : length starts ≡ 33
+  pub sets-long : length zeros ≡ 64
   pub placed : Placed m plan state (numbersIn facts (machineCount m))
   pub held : ModesHeld m (groupsIn m plan) (weightsIn facts) zeros
+  pub lives : Lives m (groupsIn m plan) (groupCount (groupsIn m plan)) zeros
   pub sizes : (k : ℕ) → k < groupCount (groupsIn m plan) → sizeIn facts k ≡ size m (groupsIn m plan) k
   pub present-modes : (k : ℕ) → k < groupCount (groupsIn m plan) → presentIn facts k ≡ present m plan state k
   pub starts-at : (k : ℕ) → k < groupCount (groupsIn m plan) → getD starts k 0 ≡ tableAt m (groupsIn m plan) k
@@ -99,13 +110,17 @@ pub record Hindered (m : Model) (plan : List ℕ) (counts : ℕ → Bool) (state
   pub dead-bits : (a : ℕ) → bit dead a ≡ ((eqb a k || upstreamIn m plan counts k a) && not (liveGroup m plan state a))
   pub lost-bits : (a : ℕ) → bit lost a ≡ (upstreamIn m plan counts k a && deadEnd m plan state masks a)
 
+-- neither can apply to any of some groups
+pub record Unhindered (m : Model) (plan : List ℕ) (counts : ℕ → Bool) (state : List ℕ) (masks : Masks) (groups : ℕ) : Type 0 where
+  pub none : (k : ℕ) → bit groups k ≡ true → Hindered m plan counts state masks k 0 0
+
+-- of the groups upstream of some groups, s holds those that may be stranded
+pub record StrandedAbove (m : Model) (plan : List ℕ) (counts : ℕ → Bool) (state : List ℕ) (masks : Masks) (groups s : ℕ) : Type 0 where
+  pub bits : (k a : ℕ) → bit groups k ≡ true → upstreamIn m plan counts k a ≡ true → bit s a ≡ deadEnd m plan state masks a
+
 -- a counted move of group c names group a
 abbrev pub Names : Model → List ℕ → (ℕ → Bool) → ℕ → ℕ → Type 0
 Names m plan counts c a = List·Memᴰ a (namedOutside m (groupsIn m plan) c (counted m plan counts c))
-
--- for each group, the set of the other groups that its counted moves name
-pub record NamedBy (m : Model) (plan : List ℕ) (counts : ℕ → Bool) (named : List ℕ) : Type 0 where
-  pub bits : (k a : ℕ) → k < 32 → bit (getD named k 0) a ≡ any (eqb a) (namedOutside m (groupsIn m plan) k (counted m plan counts k))
 
 -- s holds the groups upstream of group k
 pub record UpstreamSet (m : Model) (plan : List ℕ) (counts : ℕ → Bool) (k s : ℕ) : Type 0 where
@@ -145,12 +160,39 @@ pub record OnlyOutside (groups : Grouping) (state : List ℕ) (v : Move) (s : �
 unfoldable pub entryToward : Model → List ℕ → List ℕ → Masks → ℕ → Entry
 entryToward m plan state masks k = entryAt m plan k (present m plan state k) (targetOf m plan state masks k)
 
+-- a question, with the groups that its goal leaves unmet and what it allows of each
+pub record Leaves (m : Model) (plan state : List ℕ) (goal : Masks) (starts facts zeros numbers wanted : List ℕ) (unmet : ℕ)
+    : Type 0 where
+  pub kept : Kept m plan state facts zeros starts
+  pub numbered : numbers ≡ groupsIn m plan
+  pub unmet-groups : UnmetSet m plan state goal unmet
+  pub only : GroupsOnly m plan unmet
+  pub allows : AllowedSets m plan goal unmet wanted
+
+-- and what 16 and 18 are judged by: the groups that each names, those that are not live, and those upstream that may be stranded
+pub record Posed (m : Model) (counts : ℕ → Bool) (plan state : List ℕ) (goal : Masks)
+    (starts facts zeros numbers named wanted : List ℕ) (unmet failed lost : ℕ) : Type 0 where
+  pub leaves : Leaves m plan state goal starts facts zeros numbers wanted unmet
+  pub naming : NamedBy m plan counts named
+  pub not-live : FailedSet m plan state failed
+  pub stranding : StrandedAbove m plan counts state goal unmet lost
+
+-- a sheet's moves beside it, and of the groups upstream of an unmet one if every move counts, what is allowed of each
+pub record Uncertain (m : Model) (file plan state : List ℕ) (goal : Masks) (bodies starts facts zeros numbers wanted : List ℕ)
+    (unmet failed above : ℕ) : Type 0 where
+  pub leaves : Leaves m plan state goal starts facts zeros numbers wanted unmet
+  pub listed : Listed m file bodies
+  pub not-live : FailedSet m plan state failed
+  pub upper : UpstreamOfSome m plan everyMove unmet above
+  pub allows-above : AllowedSets m plan goal above wanted
+
 -- a question, with what its goal allows each machine and the groups that it leaves unmet
 pub record KeptGoal (m : Model) (file plan state : List ℕ) (goal : Masks)
-    (bodies starts facts zeros named live masks : List ℕ) (left : ℕ) : Type 0 where
+    (bodies starts facts zeros named machines live masks : List ℕ) (left : ℕ) : Type 0 where
   pub kept : Kept m plan state facts zeros starts
   pub listed : Listed m file bodies
   pub naming : NamedBy m plan everyMove named
+  pub members : MemberSets (groupsIn m plan) machines
   pub lives : live ≡ pad 32 (m .live)
   pub allows : Allows m goal masks
   pub leaves : UnmetSet m plan state goal left

@@ -1,4 +1,4 @@
--- Judging a plan's shape: what the code keeps of a sheet and of a plan for it.
+-- Judging a plan's shape: what the code keeps of a plan for a sheet.
 use Prim.Native.Nat.{ℕ, _+_, _*_, _≤_, _<_}
 use mathlib.Core.Path.{_≡_}
 use mathlib.Core.List.{List, map}
@@ -8,15 +8,10 @@ use lib.Dec.{eqb}
 use Rattle.common.specs.Lists.{upTo, all, any, sum}
 use Rattle.common.specs.Bits.{bit}
 use Rattle.sets.specs.Kept.Sets.{lowered}
-use Rattle.sheet.specs.declared.index.Sheet.{Sheet}
 use Rattle.sheet.specs.Record.{word}
-use Rattle.sheet.specs.Model.{Model}
-use Rattle.plan.specs.declared.opening.Outline.{Outline}
-use Rattle.plan.specs.Groups.{groupCount}
-use Rattle.plan.specs.Bytes.{tableAt}
-use Rattle.plan.specs.Reading.{groupsIn, hasRecord, wellShaped}
-use Rattle.sheet.specs.Refusal.{verdictSays}
-use Rattle.plan.specs.Says.{shapeReply}
+use Rattle.sheet.specs.Model.{Model, machineCount}
+use Rattle.plan.specs.declared.partition.Groups.{Groups}
+use Rattle.plan.specs.Reading.{groupsIn, hasRecord, gapless}
 use Rattle.plan.specs.Kept.Partition.{Partitioned}
 
 -- s holds the numbers below 64 that occur
@@ -52,13 +47,12 @@ endsAt plan at = hasRecord plan at 18 4 && hasRecord plan (at + 8) 3 0 && eqb (l
 unfoldable pub boundAt : List ℕ → ℕ → ℕ
 boundAt plan at = word plan (at + 4) + 65536 * word plan (at + 6)
 
--- what is kept of a sheet, its index x and its model m, and of a plan in shape for it
-pub record Outlined (x : Sheet) (m : Model) (plan : List ℕ) (r : Outline) : Type 0 where
-  pub sheet : r .sheet ≡ x
-  pub groups : Partitioned m (groupsIn m plan) (r .groups)
-  pub starts : (k : ℕ) → k ≤ groupCount (groupsIn m plan) → getD (r .starts) k 0 ≡ tableAt m (groupsIn m plan) k
+-- a plan begins with the numbers of the groups of the machines of m, and they have no gaps
+pub record NumbersFit (m : Model) (plan : List ℕ) : Type 0 where
+  pub shown : hasRecord plan 0 16 (machineCount m) ≡ true
+  pub no-gap : gapless (groupsIn m plan) ≡ true
 
--- what judging the shape alone answers
-pub record ShapeJudged (x : Sheet) (m : Model) (plan : List ℕ) (r : Outline) : Type 0 where
-  pub verdict : verdictSays (r .verdict) ≡ shapeReply m plan
-  pub kept : wellShaped m plan ≡ true → Outlined x m plan r
+-- what is kept of a plan for the sheet of m: the groups that it numbers, and where their records should begin
+pub record Outlined (m : Model) (plan : List ℕ) (g : Groups) (starts : List ℕ) : Type 0 where
+  pub groups : Partitioned m (groupsIn m plan) g
+  pub places : StartsAt (g .sizes) (machineCount m) (g .count) starts

@@ -2,13 +2,14 @@
 use Prim.Native.Nat.{ℕ, _≤_, _<_}
 use mathlib.Core.Path.{_≡_}
 use mathlib.Core.List.{List, map}
-use mathlib.Core.Bool.{true, not, _&&_}
+use mathlib.Core.Bool.{Bool, true, not, _&&_, _||_}
 use lib.ListN.{length, getD}
 use lib.Dec.{eqb, ltb}
 use Rattle.common.specs.Bits.{bit}
 use Rattle.common.specs.Lists.{upTo, any, filter, pad}
 use Rattle.sheet.specs.declared.index.Sheet.{Sheet}
-use Rattle.sheet.specs.Model.{Move, Model}
+use Rattle.sheet.specs.Model.{Move, Model, machineCount}
+use Rattle.sheet.specs.Valid.{Valid}
 use Rattle.plan.specs.declared.partition.Groups.{Groups}
 use Rattle.plan.specs.Groups.{Grouping, groupOf, groupCount, movesOf, namesGroup, namedOutside}
 use Rattle.plan.specs.Modes.{weight}
@@ -19,6 +20,12 @@ pub record Numbers (x : Sheet) (numbers : List ℕ) : Type 0 where
   pub one-each : length numbers ≡ x .machines
   pub below : (i : ℕ) → i < length numbers → getD numbers i 0 < 32
 
+-- a valid sheet, and a number below 32 for each of its machines
+pub record Numbered (m : Model) (numbers : List ℕ) : Type 0 where
+  pub valid : Valid m
+  pub one-each : length numbers ≡ machineCount m
+  pub below : (i : ℕ) → i < length numbers → getD numbers i 0 < 32
+
 -- the weight of each machine in its group
 unfoldable pub cappedWeights : Model → Grouping → List ℕ
 cappedWeights m groups = pad 32 (map (λ i. capped (weight m groups (groupOf groups i) i)) (upTo (length groups)))
@@ -27,9 +34,18 @@ cappedWeights m groups = pad 32 (map (λ i. capped (weight m groups (groupOf gro
 pub record NamesIn (groups : Grouping) (v : Move) (s : ℕ) : Type 0 where
   pub bits : (a : ℕ) → a < 64 → bit s a ≡ namesGroup groups a v
 
--- and those outside the move's own group; none where the move does not count
+-- and those outside its own group
+pub record OutsideIn (groups : Grouping) (v : Move) (own s : ℕ) : Type 0 where
+  pub bits : (a : ℕ) → a < 64 → bit s a ≡ (namesGroup groups a v && not (eqb own a))
+
+-- those of a move that counts; none where its byte is 0
 pub record OutsideNamed (groups : Grouping) (v : Move) (own counts s : ℕ) : Type 0 where
   pub bits : (a : ℕ) → a < 64 → bit s a ≡ (not (eqb counts 0) && (namesGroup groups a v && not (eqb own a)))
+
+-- s adds to a known set the groups outside its own that move v names, if it counts
+pub record AddsNamed (groups : Grouping) (v : Move) (own : ℕ) (counts : Bool) (known s : ℕ) : Type 0 where
+  pub bits : (a : ℕ) → a < 64
+      → (bit known a || bit s a) ≡ (bit known a || (counts && (namesGroup groups a v && not (eqb own a))))
 
 -- the moves of group k that count, by a byte for each move
 unfoldable pub countedMoves : Model → Grouping → List ℕ → ℕ → List ℕ

@@ -2,9 +2,8 @@ use Prim.Native.Nat.{_^_, _<_}
 use mathlib.Core.Path.{sym}
 use native.Mathlib.Omega.{arith}
 use borrow.Author.Needs.{needs}
-use Rattle.command.proofs.Pursuing.{pursued-few, pursued-placed, pursued-machines, pursued-members, pursued-failed}
-use Rattle.command.proofs.Pursuing.{pursued-only, pursued-upper, pursued-among, pursued-left, pursued-above}
-use Rattle.command.proofs.Pursuing.{pursued-replies}
+use Rattle.command.proofs.Pursuing.{pursued-few, pursued-placed, pursued-only, pursued-among, pursued-left}
+use Rattle.command.proofs.Pursuing.{pursued-uncertain, pursued-replies}
 use Rattle.command.proofs.StrandedLoop.{kept-below}
 use Rattle.command.proofs.Verdicts.{refused-unless}
 use Rattle.command.proofs.advising.pursue.Statement.{statement}
@@ -12,33 +11,26 @@ use Rattle.command.proofs.advising.pursue.Tie as tie
 
 -- the start, as it is seen behind `numbers`
 abbrev start : tie.After-numbers → tie.Start
-start c = c .before .before .before .before .before .before .before .before .before .before .before
+start c = c .before .before .before .before .before .before .before .before .before .before .before .before
 
 fits : (c : tie.After-numbers) → start c .args .left < 2 ^ 64
 fits c = omega arith
 
 numbers-requires : tie.Need-numbers-requires
 numbers-requires c κs =
-    let at-start = c .before .before .before .before .before .before .before .before .before .before in
+    let at-start = c .before .before .before .before .before .before .before .before .before .before .before in
     pursued-few (at-start .pre .0 .2)
-
-members-requires : tie.Need-members-requires
-members-requires c κs = pursued-machines (start c .pre .0 .2) (c .numbers .ensures)
 
 upstream-of-requires : tie.Need-upstream-of-requires
 upstream-of-requires c κs = search needs
-
-slice-aggregate-allowed-sets : tie.Need-slice-aggregate-allowed-sets
-slice-aggregate-allowed-sets c = search needs
 
 join-requires : tie.Need-join-requires
 join-requires c κs = search needs
 
 allowed-sets-requires : tie.Need-allowed-sets-requires
 allowed-sets-requires c κs =
-    let at-upstream-of = c .before .before in
-    let at-members = at-upstream-of .before in
-    let at-numbers = at-members .before in
+    let at-upstream-of = c .before in
+    let at-numbers = at-upstream-of .before in
     let p = start at-numbers .pre in
     let q = p .0 .2 in (
       (
@@ -50,45 +42,36 @@ allowed-sets-requires c κs =
         q .kept,
         q .allows,
         pursued-among q (fits at-numbers) (at-upstream-of .upstream-of .ensures) (c .join .ensures),
-        pursued-members q (at-numbers .numbers .ensures) (at-members .members .ensures),
+        q .members,
       ),
+      p .4,
       p .3,
-      omega (arith, at-members .members .ok),
     )
 
-slice-aggregate-check : tie.Need-slice-aggregate-check
-slice-aggregate-check c = search needs
+slice-aggregate-cover : tie.Need-slice-aggregate-cover
+slice-aggregate-cover c = search needs
 
 failed-requires : tie.Need-failed-requires
 failed-requires c κs =
-    let at-numbers = c .before .before .before .before .before .before in
+    let at-numbers = c .before .before .before .before in
     let p = start at-numbers .pre in
     let q = p .0 .2 in
     (p .0 .0, _, pursued-placed q (at-numbers .numbers .ensures), q .lives)
 
-check-requires : tie.Need-check-requires
-check-requires c κs =
+cover-requires : tie.Need-cover-requires
+cover-requires c κs =
     let at-allowed-sets = c .before .before in
-    let at-upstream-of = at-allowed-sets .before .before .before in
-    let at-numbers = at-upstream-of .before .before in
-    let p = start at-numbers .pre in
-    let q = p .0 .2 in
-    let e = at-numbers .numbers .ensures in (
+    let at-join = at-allowed-sets .before in
+    let at-upstream-of = at-join .before in
+    let at-numbers = at-upstream-of .before in
+    let p = start at-numbers .pre in (
       (
         p .0 .0,
         _,
-        _,
-        _,
         p .0 .1,
-        q .kept,
-        pursued-placed q e .numbered,
-        q .naming,
-        q .leaves,
-        pursued-only q (fits at-numbers),
-        pursued-upper q (fits at-numbers) (at-upstream-of .upstream-of .ensures),
-        pursued-failed q e (c .failed .ensures),
+        pursued-uncertain (p .0 .2) (fits at-numbers) (at-upstream-of .upstream-of .ensures) (at-join .join .ensures)
+            (at-allowed-sets .allowed-sets .ensures) (at-numbers .numbers .ensures) (c .failed .ensures),
       ),
-      p .2,
       omega (arith, at-allowed-sets .allowed-sets .ok),
     )
 
@@ -99,18 +82,17 @@ enum-told : tie.Need-enum-told
 enum-told c = search needs
 
 highest-requires : tie.Need-highest-requires
-highest-requires c κs =
-    start (c .before .before .before .before .before .before .before .before .before .before) .pre .1
+highest-requires c κs = search needs
 
-cast-t27 : tie.Need-cast-t27
-cast-t27 c = search needs
+cast-t25 : tie.Need-cast-t25
+cast-t25 c = search needs
 
 mul-fulfil : tie.Need-mul-fulfil
 mul-fulfil c = search needs
 
 array-read-fulfil : tie.Need-array-read-fulfil
 array-read-fulfil c =
-    let at-numbers = c .before .before .before .before .before .before .before .before .before .before .before in
+    let at-numbers = c .before .before .before .before .before .before .before .before .before in
     let q = start at-numbers .pre .0 .2 in
     kept-below (q .kept) (pursued-only q (fits at-numbers) _ (c .highest .ensures .1))
 
@@ -118,9 +100,8 @@ fulfil-requires : tie.Need-fulfil-requires
 fulfil-requires c κs =
     let at-allowed-sets = c .before .before .before .before .before .before in
     let at-join = at-allowed-sets .before in
-    let at-upstream-of = at-join .before .before in
-    let at-members = at-upstream-of .before in
-    let at-numbers = at-members .before in
+    let at-upstream-of = at-join .before in
+    let at-numbers = at-upstream-of .before in
     let p = start at-numbers .pre in
     let q = p .0 .2 in
     let on = c .highest .ensures .1 in (
@@ -130,7 +111,6 @@ fulfil-requires c κs =
       q .listed,
       pursued-only q (fits at-numbers) _ on,
       pursued-left q (fits at-numbers) (at-upstream-of .upstream-of .ensures) (at-join .join .ensures)
-          (pursued-members q (at-numbers .numbers .ensures) (at-members .members .ensures))
           (at-allowed-sets .allowed-sets .ensures) .each _ on,
     )
 
@@ -138,48 +118,37 @@ returns : tie.Need-returns
 returns c m goal q =
     let at-highest = c .before in
     let at-told = at-highest .before in
-    let at-check = at-told .before .before in
-    let at-failed = at-check .before in
+    let at-cover = at-told .before .before in
+    let at-failed = at-cover .before in
     let at-allowed-sets = at-failed .before .before in
     let at-join = at-allowed-sets .before in
-    let at-upstream-of = at-join .before .before in
-    let at-members = at-upstream-of .before in
-    let at-numbers = at-members .before in
-    let e = at-numbers .numbers .ensures in
+    let at-upstream-of = at-join .before in
+    let at-numbers = at-upstream-of .before in
     let fit = fits at-numbers in
     let up = at-upstream-of .upstream-of .ensures in
     let join = at-join .join .ensures in
-    let sets = pursued-members q e (at-members .members .ensures) in
     let allowed = at-allowed-sets .allowed-sets .ensures in
     let top = at-highest .highest .ensures in
-    let left = pursued-left q fit up join sets allowed in
     pursued-replies q fit _
-    (at-check .check .ensures m _ _ _ goal (q .kept) (pursued-placed q e .numbered) (q .naming) (q .leaves)
-    (pursued-only q fit) (pursued-upper q fit up) (pursued-failed q e (at-failed .failed .ensures)) left
-    (pursued-above q fit up join sets allowed))
+    (at-cover .cover .ensures m _ goal
+    (pursued-uncertain q fit up join allowed (at-numbers .numbers .ensures) (at-failed .failed .ensures)))
     (at-told .enum-told .given .1) top
-    (c .fulfil .ensures m goal (q .kept) (q .listed) (pursued-only q fit _ (top .1)) (left .each _ (top .1)))
+    (c .fulfil .ensures m goal (q .kept) (q .listed) (pursued-only q fit _ (top .1))
+    (pursued-left q fit up join allowed .each _ (top .1)))
 
 returns-2 : tie.Need-returns-2
 returns-2 c m goal q =
     let at-verdict = c .before in
-    let at-check = at-verdict .before .before in
-    let at-failed = at-check .before in
+    let at-cover = at-verdict .before .before in
+    let at-failed = at-cover .before in
     let at-allowed-sets = at-failed .before .before in
     let at-join = at-allowed-sets .before in
-    let at-upstream-of = at-join .before .before in
-    let at-members = at-upstream-of .before in
-    let at-numbers = at-members .before in
-    let e = at-numbers .numbers .ensures in
-    let fit = fits at-numbers in
-    let up = at-upstream-of .upstream-of .ensures in
-    let join = at-join .join .ensures in
-    let sets = pursued-members q e (at-members .members .ensures) in
-    let allowed = at-allowed-sets .allowed-sets .ensures in
+    let at-upstream-of = at-join .before in
+    let at-numbers = at-upstream-of .before in
     sym (refused-unless _
-    (at-check .check .ensures m _ _ _ goal (q .kept) (pursued-placed q e .numbered) (q .naming) (q .leaves)
-    (pursued-only q fit) (pursued-upper q fit up) (pursued-failed q e (at-failed .failed .ensures))
-    (pursued-left q fit up join sets allowed) (pursued-above q fit up join sets allowed))
+    (at-cover .cover .ensures m _ goal
+    (pursued-uncertain q (fits at-numbers) (at-upstream-of .upstream-of .ensures) (at-join .join .ensures)
+    (at-allowed-sets .allowed-sets .ensures) (at-numbers .numbers .ensures) (at-failed .failed .ensures)))
     (at-verdict .verdict .given .1) _)
 
 pub pursue-spec : {M : Type 1} → statement M
@@ -187,18 +156,16 @@ pursue-spec =
     tie.close
     (tie.spec
     numbers-requires
-    members-requires
     upstream-of-requires
-    slice-aggregate-allowed-sets
     join-requires
     allowed-sets-requires
-    slice-aggregate-check
+    slice-aggregate-cover
     failed-requires
-    check-requires
+    cover-requires
     enum-known-verdict
     enum-told
     highest-requires
-    cast-t27
+    cast-t25
     mul-fulfil
     array-read-fulfil
     fulfil-requires

@@ -14,7 +14,7 @@ slice-aggregate-check c = search needs
 
 check-requires : tie.Need-check-requires
 check-requires c κs =
-    let at-start = c .before .before .before .before .before .before in
+    let at-start = c .before .before .before .before .before .before .before in
     let o = at-start .pre .1 in (opened-few o, indexes-array (o .indexes))
 
 enum-known-verdict : tie.Need-enum-known-verdict
@@ -28,7 +28,7 @@ slice-aggregate-wished c = search needs
 
 wished-requires : tie.Need-wished-requires
 wished-requires c κs =
-    let at-start = c .before .before .before .before .before .before .before .before .before .before in
+    let at-start = c .before .before .before .before .before .before .before .before .before .before .before in
     let o = at-start .pre .1 in (opened-few o, indexes-array (o .indexes), opened-modes o)
 
 slice-aggregate-advise : tie.Need-slice-aggregate-advise
@@ -39,7 +39,7 @@ advise-requires c κs =
     let at-wished = c .before in
     let at-told = at-wished .before .before in
     let at-check = at-told .before .before in
-    let at-start = at-check .before .before .before .before .before .before .before in
+    let at-start = at-check .before .before .before .before .before .before .before .before in
     let p = at-start .pre in
     let i = p .1 .indexes in
     let told = at-check .check .ensures (p .0) (indexes-modes i) (indexes-machines i) in

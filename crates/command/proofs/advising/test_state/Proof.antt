@@ -11,7 +11,7 @@ slice-aggregate-check c = search needs
 
 check-requires : tie.Need-check-requires
 check-requires c κs =
-    let at-start = c .before .before .before .before .before .before in
+    let at-start = c .before .before .before .before .before .before .before in
     let o = at-start .pre .1 in (opened-few o, indexes-array (o .indexes))
 
 enum-known-verdict : tie.Need-enum-known-verdict
@@ -23,7 +23,7 @@ enum-told c = search needs
 test-goal-requires : tie.Need-test-goal-requires
 test-goal-requires c κs =
     let at-check = c .before .before in
-    let at-start = at-check .before .before .before .before .before .before .before in
+    let at-start = at-check .before .before .before .before .before .before .before .before in
     let p = at-start .pre in
     let i = p .1 .indexes in
     let told = at-check .check .ensures (p .0) (indexes-modes i) (indexes-machines i) in

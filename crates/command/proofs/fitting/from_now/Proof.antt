@@ -6,14 +6,14 @@ use Rattle.command.proofs.fitting.from_now.Tie as tie
 shared-slice-read-result : tie.Need-shared-slice-read-result
 shared-slice-read-result c = search needs
 
-group-of-requires : tie.Need-group-of-requires
-group-of-requires c κs = search needs
+group-at-requires : tie.Need-group-at-requires
+group-at-requires c κs = search needs
 
 returns : tie.Need-returns
 returns c = search start-foreign
 
-mode-of-requires : tie.Need-mode-of-requires
-mode-of-requires c κs = search needs
+mode-at-requires : tie.Need-mode-at-requires
+mode-at-requires c κs = search needs
 
 shared-slice-read-result-2 : tie.Need-shared-slice-read-result-2
 shared-slice-read-result-2 c = search needs
@@ -26,8 +26,8 @@ from-now-spec =
     tie.close
     (tie.spec
     shared-slice-read-result
-    group-of-requires
+    group-at-requires
     returns
-    mode-of-requires
+    mode-at-requires
     shared-slice-read-result-2
     returns-2)

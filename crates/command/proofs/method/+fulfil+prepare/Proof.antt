@@ -11,9 +11,9 @@ use Rattle.sheet.specs.Record.{byte}
 use Rattle.plan.specs.Groups.{groupOf}
 use Rattle.command.specs.Kept.Question.{machinesIn, numbersIn}
 use Rattle.command.proofs.Looked.{kept-group, kept-fits}
-use Rattle.command.proofs.Placing.{placed-known, placed-count, kept-placed, kept-held}
-use Rattle.command.proofs.Startable.{listed-there, listed-behind, listed-long, listed-move, listed-valid}
-use Rattle.command.proofs.Startable.{entry-far, entry-absent, entry-elsewhere, entry-held}
+use Rattle.command.proofs.Placing.{placed-known, placed-count, placed-inside, kept-placed, kept-held}
+use Rattle.command.proofs.Startable.{listed-there, listed-behind, listed-long, listed-move, listed-valid, listed-present}
+use Rattle.command.proofs.Startable.{entry-far, entry-absent, entry-elsewhere, entry-held, entry-idle}
 use Rattle.command.proofs.Startable.{entry-own, entry-outside, entry-prepares}
 use Rattle.command.proofs.Waiting.{prepare-sends, prepare-valid, prepare-there, prepare-lower, prepare-allowed}
 use Rattle.command.proofs.Waiting.{prepare-fulfils}
@@ -26,6 +26,7 @@ use Rattle.command.proofs.method.+fulfil+prepare.Lts-prepare as prepare
 use Rattle.command.proofs.fitting.from_now.Reads as from-now-reads
 use Rattle.command.proofs.fitting.held_up.Reads as held-up-reads
 use Rattle.command.proofs.fitting.toward.Reads as toward-reads
+use Rattle.command.proofs.fitting.usable.Reads as usable-reads
 use Rattle.command.proofs.query.numbers.Reads as numbers-reads
 use Rattle.command.proofs.query.size_of.Reads as size-of-reads
 use Rattle.command.proofs.query.weights.Reads as weights-reads
@@ -79,6 +80,8 @@ fulfil-calls t = (
   from-now-reads.Learnt,
   has-reads.Asked,
   has-reads.Learnt,
+  usable-reads.Asked,
+  usable-reads.Learnt,
   prepare-below t,
   prepare.Post,
 )
@@ -156,9 +159,12 @@ fulfil-held-up-requires t c κs =
 fulfil-from-now-requires : (t : ℕ) → fulfil-lts.Need-from-now-requires (fulfil-calls t) (fulfil-at t) fulfil.Post
 fulfil-from-now-requires t c κs =
     let led = c .before .before .before .before .before .before .before .before in
-    let l = led .before .before .before .before .before .before .before .before .pre .1 .3 in
+    let (m, goal, kept, l, below, fits) = led .before .before .before .before .before .before .before .before .pre .1 in
     let there = leb-false _ _ (c .before .before .before .before .if2 .left) in
-    omega (arith, listed-long l there (c .before .before .body .ensures))
+    let f = c .before .before .body .ensures in
+    let p = kept-placed kept (c .before .numbers .ensures) in
+    let present = listed-present l there f p in
+    (omega (arith, listed-long l there f), present, omega (arith, placed-inside p _ present))
 
 fulfil-wide-requires-2 : (t : ℕ) → fulfil-lts.Need-wide-requires-2 (fulfil-calls t) (fulfil-at t) fulfil.Post
 fulfil-wide-requires-2 t c κs = search needs
@@ -191,9 +197,43 @@ fulfil-returns-2 t c =
     (ap (bit _) (sym (w .1 .ensures .0)) ∙ sym (w .2 .ensures) ∙ w .3 .taken))
     (c .if3 .came)
 
+fulfil-usable-requires : (t : ℕ) → fulfil-lts.Need-usable-requires (fulfil-calls t) (fulfil-at t) fulfil.Post
+fulfil-usable-requires t c κs =
+    let judged = c .before .before .before .before in
+    let known = judged .before .before in
+    let tested = known .before .before .before in
+    let led = tested .before .before .before .before in
+    let there = leb-false _ _ (tested .if2 .left) in
+    let start = led .before .before .before .before .before .before .before .before in
+    let (m, goal, kept, l, below, fits) = start .pre .1 in (
+      m,
+      _,
+      _,
+      kept,
+      kept-placed kept (known .numbers .ensures) .numbered,
+      listed-there l there,
+      listed-move l there (known .before .body .ensures),
+    )
+
+fulfil-returns-3 : (t : ℕ) → fulfil-lts.Need-returns-3 (fulfil-calls t) (fulfil-at t) fulfil.Post
+fulfil-returns-3 t c =
+    λ m goal kept l below fits.
+    let judged = c .before .before .before .before .before .before in
+    let known = judged .before .before in
+    let tested = known .before .before .before in
+    let led-by = tested .before .before .before in
+    let led = led-by .before in
+    let there = leb-false _ _ (tested .if2 .left) in
+    let told = c .before .usable .ensures m _ _ kept (kept-placed kept (known .numbers .ensures) .numbered) (listed-there l there)
+    (listed-move l there (known .before .body .ensures)) in
+    entry-idle (led .toward .ensures) m goal kept l below fits (led-by .wide .ensures .0) there
+    (known .before .body .ensures) (known .numbers .ensures) (judged .before .held-up .ensures)
+    (judged .from-now .ensures) (tested .before .if1 .left) (sym told ∙ not-true _ (c .if5 .taken))
+
 fulfil-prepare-requires : (t : ℕ) → fulfil-lts.Need-prepare-requires (fulfil-calls t) (fulfil-at t) fulfil.Post
 fulfil-prepare-requires t c κs =
-    let judged = c .before .before .before .before in
+    let free-here = c .before .before in
+    let judged = free-here .before .before .before .before in
     let known = judged .before .before in
     let tested = known .before .before .before in
     let led-by = tested .before .before .before in
@@ -201,9 +241,9 @@ fulfil-prepare-requires t c κs =
     let there = leb-false _ _ (tested .if2 .left) in
     let start = led .before .before .before .before .before .before .before .before in
     let (m, goal, kept, l, below, fits) = start .pre .1 in
-    let starts = not-false _ (c .before .before .before .if3 .left) in
-    let last = c .before in
-    let free = ap (bit _) (sym (last .before .wide2 .ensures .0)) ∙ sym (last .has .ensures) ∙ c .if4 .left in
+    let starts = not-false _ (free-here .before .before .before .if3 .left) in
+    let last = free-here .before in
+    let free = ap (bit _) (sym (last .before .wide2 .ensures .0)) ∙ sym (last .has .ensures) ∙ free-here .if4 .left in
     let own =
     entry-own (led .toward .ensures) m goal kept l below fits (led-by .wide .ensures .0) there
     (known .before .body .ensures) (known .numbers .ensures) (judged .before .held-up .ensures)
@@ -217,21 +257,26 @@ fulfil-prepare-requires t c κs =
       ((m, kept, l, _, listed-there l there, same, outside), listed-long l there (known .before .body .ensures)),
     )
 
-fulfil-returns-3 : (t : ℕ) → fulfil-lts.Need-returns-3 (fulfil-calls t) (fulfil-at t) fulfil.Post
-fulfil-returns-3 t c =
+fulfil-returns-4 : (t : ℕ) → fulfil-lts.Need-returns-4 (fulfil-calls t) (fulfil-at t) fulfil.Post
+fulfil-returns-4 t c =
     λ m goal kept l below fits.
-    let judged = c .before .before .before .before .before in
+    let at-usable = c .before .before in
+    let free-here = at-usable .before in
+    let judged = free-here .before .before .before .before in
     let known = judged .before .before in
     let tested = known .before .before .before in
     let led-by = tested .before .before .before in
     let led = led-by .before in
     let there = leb-false _ _ (tested .if2 .left) in
-    let starts = not-false _ (c .before .before .before .before .if3 .left) in
-    let last = c .before .before in
-    let free = ap (bit _) (sym (last .before .wide2 .ensures .0)) ∙ sym (last .has .ensures) ∙ c .before .if4 .left in
+    let starts = not-false _ (free-here .before .before .before .if3 .left) in
+    let last = free-here .before in
+    let free = ap (bit _) (sym (last .before .wide2 .ensures .0)) ∙ sym (last .has .ensures) ∙ free-here .if4 .left in
+    let told = at-usable .usable .ensures m _ _ kept (kept-placed kept (known .numbers .ensures) .numbered) (listed-there l there)
+    (listed-move l there (known .before .body .ensures)) in
     entry-prepares (led .toward .ensures) m goal kept l below fits (led-by .wide .ensures .0) there
     (known .before .body .ensures) (known .numbers .ensures) (judged .before .held-up .ensures)
-    (judged .from-now .ensures) starts free (tested .before .if1 .left) (c .prepare .ensures)
+    (judged .from-now .ensures) starts free (tested .before .if1 .left) (sym told ∙ not-false _ (c .before .if5 .left))
+    (c .prepare .ensures)
 
 prepare-shared-slice-read-t15 : (t : ℕ)
     → prepare-lts.Need-shared-slice-read-t15 (prepare-calls t) (prepare-at t) prepare.Post
@@ -330,8 +375,10 @@ pub +fulfil+prepare-spec : {M : Type 1} → statement M
     (fulfil-wide-requires-2 t)
     (fulfil-has-requires t)
     (fulfil-returns-2 t)
+    (fulfil-usable-requires t)
+    (fulfil-returns-3 t)
     (fulfil-prepare-requires t)
-    (fulfil-returns-3 t))
+    (fulfil-returns-4 t))
     λ t.
     prepare-lts.spec (prepare-calls t) (prepare-at t) prepare.Post
     (prepare-shared-slice-read-t15 t)
