@@ -248,7 +248,7 @@ class Case(unittest.TestCase):
 
 class Examples(Case):
     def test_every_example_is_what_its_text_says(self):
-        self.assertEqual(len(EXAMPLES), 14)
+        self.assertEqual(len(EXAMPLES), 15)
         self.assertEqual(run("check", *EXAMPLES), (0, "", ""))
 
     def test_no_example_has_other_bytes(self):
@@ -307,7 +307,7 @@ class Examples(Case):
                 else:
                     self.assertRegex(said, "^done after " if line.startswith("done") else "^refused ")
             count += 1
-        self.assertEqual(count, 10)
+        self.assertEqual(count, 11)
 
 
 class Texts(Case):

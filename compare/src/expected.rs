@@ -40,23 +40,6 @@ pub fn named_outside(sheet: &[u8], groups: &[u8]) -> Vec<u8> {
     outside.flatten().collect()
 }
 
-/// The groups that 16 looks at: those that do not meet the goal, and all upstream
-/// of them. Each machine's group is given.
-pub fn judged(sheet: &[u8], groups: &[u8], state: &[u8], goal: &[u8]) -> BTreeSet<u8> {
-    let wanted = goal.iter().zip(state.chunks(2)).zip(groups);
-    let unmet = wanted.filter(|((mask, cell), _)| *mask >> cell[0] & 1 == 0);
-    let mut judged: BTreeSet<u8> = unmet.map(|(_, &group)| group).collect();
-    let edges = named_outside(sheet, groups);
-    loop {
-        let upstream = edges.chunks(2).filter(|edge| judged.contains(&edge[1]));
-        let wider: BTreeSet<u8> = upstream.map(|edge| edge[0]).chain(judged.clone()).collect();
-        if wider == judged {
-            return judged;
-        }
-        judged = wider;
-    }
-}
-
 /// How tags change a reply, given the one with all tags lifted: 13 for a tag byte,
 /// 16 where a command would be sent, 16 in place of another refusal, nothing
 /// done where a machine would move. They never change it otherwise.

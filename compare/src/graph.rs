@@ -75,7 +75,7 @@ impl Picture {
         picture.count = groups.count;
         for group in 0..groups.count {
             picture.members[group] = groups.member_mask(group);
-            for source in bits(groups.named(group) as u64) {
+            for source in bits(groups.named[group] as u64) {
                 picture.targets[source] |= 1 << group;
             }
         }

@@ -3,12 +3,15 @@
 //! A group mode is a mixed-radix number of its machines' modes, the smallest
 //! machine first. Sets of modes of a group of up to 64 are 64-bit masks.
 
-use crate::bits;
 use crate::sheet::{Move, Sheet, MAX_MACHINES};
 use crate::state::State;
+use crate::{bits, highest};
 
 /// Most modes of a group.
 pub const MAX_GROUP_MODES: u64 = 64;
+
+/// For each group some others, as a mask.
+pub type GroupSets = [u32; MAX_MACHINES];
 
 pub struct Groups {
     /// Number of groups.
@@ -21,8 +24,8 @@ pub struct Groups {
     sizes: [u64; MAX_MACHINES],
     /// Each machine's weight in its group's mode number.
     weights: [u64; MAX_MACHINES],
-    /// The other groups that a group's moves name, as a mask.
-    named: [u32; MAX_MACHINES],
+    /// The other groups that each group's moves name, usable or not.
+    pub named: GroupSets,
 }
 
 impl Groups {
@@ -104,11 +107,6 @@ impl Groups {
         self.members[group].trailing_zeros() as usize
     }
 
-    /// The other groups that a group's moves name, as a mask.
-    pub fn named(&self, group: usize) -> u32 {
-        self.named[group]
-    }
-
     /// The groups that a move names, but for its own, as a mask.
     #[inline]
     pub fn outside(&self, step: &Move) -> u32 {
@@ -117,17 +115,6 @@ impl Groups {
             named |= 1 << self.of[guard[0] as usize];
         }
         named & !(1 << self.of[step.machine])
-    }
-
-    /// Each group's ancestors (the paper's upstream groups), as masks.
-    pub fn ancestors(&self) -> [u32; MAX_MACHINES] {
-        let mut ancestors = self.named;
-        for group in 0..self.count {
-            for parent in bits(self.named[group] as u64) {
-                ancestors[group] |= ancestors[parent];
-            }
-        }
-        ancestors
     }
 
     /// The group mode that the state puts a group in.
@@ -180,6 +167,28 @@ impl Groups {
         }
         modes
     }
+}
+
+/// Each group's ancestors (the paper's upstream groups), by the groups that each
+/// names, all of which have lower numbers.
+pub fn ancestors(named: &GroupSets) -> GroupSets {
+    let mut ancestors = *named;
+    for group in 0..named.len() {
+        for parent in bits(named[group] as u64) {
+            ancestors[group] |= ancestors[parent];
+        }
+    }
+    ancestors
+}
+
+/// The ancestors of all of some groups together.
+pub fn ancestors_of(some: u32, named: &GroupSets) -> u32 {
+    let (mut ancestors, mut left) = (0, some);
+    while let Some(group) = highest(left) {
+        left = left & !(1 << group) | named[group];
+        ancestors |= named[group];
+    }
+    ancestors
 }
 
 /// For each machine, the machines it needs, directly or through others.

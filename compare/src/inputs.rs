@@ -8,7 +8,9 @@ use crate::join::{in_one_slice, MAX_GOALS};
 use crate::pictures::{own_text, Drawing};
 use crate::plan::MIN_SCRATCH;
 use crate::random::{self, Random};
-use crate::samples::{blocks, chain, dials, fullest, one_way, stove, two_slots};
+use crate::samples::{
+    blocks, chain, dials, eight_names, fullest, one_way, stove, two_slots, Builder,
+};
 use crate::sheet::{Sheet, MAX_MACHINES, MAX_MOVES};
 use crate::state::{set_mode, tagged, untagged};
 use crate::version::{Rust, Version};
@@ -18,6 +20,11 @@ use crate::walk::own_plan;
 const RANDOM: u64 = 2611;
 
 const KITCHEN: &[u8] = include_bytes!("../../examples/kitchen/sheet.bin");
+
+/// An oven, and a dead mixer that only a move which is never usable names.
+const MIXER: &[u8] = include_bytes!("../../examples/walks/dead_mixer/sheet.bin");
+const MIXER_BROKEN: &[u8] = include_bytes!("../../examples/walks/dead_mixer/state.bin");
+const OVEN_HOT: &[u8] = include_bytes!("../../examples/walks/dead_mixer/wish.bin");
 
 pub struct Input {
     pub name: &'static str,
@@ -72,6 +79,7 @@ pub fn inputs() -> Vec<Input> {
         Input::asked("kitchen-done", KITCHEN, &untagged(&[0; 20]), &[]),
     ];
     inputs.extend(chains());
+    inputs.extend(unusable());
     inputs.extend(eight_wishes());
     inputs.extend(crowded().map(|(name, sheet)| Input::new(name, &sheet).only(&["sheet"])));
     inputs.extend(pictures());
@@ -99,6 +107,39 @@ fn chains() -> [Input; 5] {
         Input::asked("chain-17", &sheet, &off, &last_broken),
         Input::asked("chain-18", &sheet, &off, &first_off),
     ]
+}
+
+/// Sheets with a mixer that is out of order, which only a move that is never usable
+/// names: the example, and the kitchen with such a mixer. Then 32 groups of which
+/// all but eight name eight others, attainable, and refused as 16, by a tag on the
+/// first machine.
+fn unusable() -> [Input; 4] {
+    let eight = eight_names();
+    let off = untagged(&[0; MAX_MACHINES]);
+    let broken = untagged(&[[0; 20].as_slice(), &[2]].concat());
+    let goal = [[2; 20].as_slice(), &[7]].concat();
+    let planned = ["plan", "next"].as_slice();
+    [
+        Input::asked("dead-mixer", MIXER, MIXER_BROKEN, OVEN_HOT).only(planned),
+        Input::asked("kitchen-mixer", &kitchen_mixer(), &broken, &goal).only(planned),
+        Input::new("eight-names", &eight).only(&["next"]),
+        Input::asked(
+            "eight-names-16",
+            &eight,
+            &tagged(&off, 0),
+            &[2; MAX_MACHINES],
+        ),
+    ]
+}
+
+/// The kitchen, behind its machines a mixer without moves, and behind its moves one
+/// that needs the mixer running.
+fn kitchen_mixer() -> Vec<u8> {
+    let (machines, rest) = KITCHEN.split_at(20 * 6);
+    let moves = &rest[..rest.len() - 4];
+    let mixer = Builder::new().machine(3, 3).unfinished();
+    let waiting = Builder::new().step([19, 0, 1, 255], &[[20, 2]]).end();
+    [machines, &mixer, moves, &waiting].concat()
 }
 
 /// As many goals as are joined, each for all machines of the longest chain; then

@@ -6,6 +6,7 @@ pub mod arrays;
 pub mod both;
 pub mod calls;
 pub mod command;
+pub mod definition;
 pub mod expected;
 pub mod faults;
 pub mod graph;

@@ -39,7 +39,7 @@ impl Drawing {
         let groups = Groups::of_sheet(sheet);
         let members = |group| groups.members(group).map(|machine| machine as u8);
         let sources = |target: usize| {
-            let named = bits(groups.named(target) as u64);
+            let named = bits(groups.named[target] as u64);
             named.map(move |source| [source as u8, target as u8])
         };
         Drawing {

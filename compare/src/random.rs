@@ -3,14 +3,16 @@
 use crate::bits;
 use crate::calls::{Lent, Slot};
 use crate::command::Command;
+use crate::definition::Reading;
 use crate::groups::{Groups, MAX_GROUP_MODES};
 use crate::join::in_one_slice;
 use crate::pictures;
 use crate::plan::{BOUND, GROUP_NUMBERS, MIN_SCRATCH, NO_ROUTE, TABLE};
+use crate::records::Records;
 use crate::samples::Builder;
 use crate::shape::Plan;
-use crate::sheet::{Sheet, MAX_MACHINES};
-use crate::state::{set_tag, untagged};
+use crate::sheet::{Sheet, MAX_MACHINES, MOVE};
+use crate::state::{set_mode, set_tag, untagged};
 use crate::version::Rust;
 use crate::walk::own_plan;
 
@@ -195,7 +197,28 @@ fn neighbour(random: &mut Random, shape: &Shape, machine: usize) -> usize {
     }
 }
 
-/// Bytes lent as a sheet: whole, damaged, cut, extended, or noise.
+/// A sheet that passes refusals 1 to 8, in which some machines have no moves: a
+/// move that needs such a machine in another mode is never usable.
+pub fn idle_sheet(random: &mut Random) -> Vec<u8> {
+    let bytes = sheet(random);
+    idle(random, &bytes)
+}
+
+/// The same sheet without the moves of some machines.
+fn idle(random: &mut Random, sheet: &[u8]) -> Vec<u8> {
+    let idle = random.word() & random.word();
+    let mut records = Records::new(sheet);
+    let mut kept = Builder::new();
+    while let Some(record) = records.take() {
+        if record.kind != MOVE || idle >> record.body[0] & 1 == 0 {
+            kept = kept.record(record.kind, record.body);
+        }
+    }
+    kept.unfinished()
+}
+
+/// Bytes lent as a sheet: whole, damaged, cut, extended, noise, or without the
+/// moves of some machines.
 pub fn sheet_bytes(random: &mut Random) -> Vec<u8> {
     let mut bytes = sheet(random);
     match random.below(8) {
@@ -203,6 +226,7 @@ pub fn sheet_bytes(random: &mut Random) -> Vec<u8> {
         2 => bytes.truncate(random.below(bytes.len())),
         3 => bytes.extend(random.byte_run(9)),
         4 => bytes = noise(random),
+        5 => bytes = idle(random, &bytes),
         _ => {}
     }
     bytes
@@ -493,6 +517,51 @@ fn odd_entry(random: &mut Random) -> [u8; 2] {
     [distance, number]
 }
 
+/// A question that leads to a move which is not usable, if a random sheet has such
+/// a move: in its own plan, all entries from where that move may start name it, its
+/// end is wanted, and one of the machines that it waits for has a tag.
+pub fn forged(random: &mut Random) -> Option<Lent> {
+    let bytes = idle_sheet(random);
+    let own = own_plan::<Rust>(&bytes).ok()?;
+    let unusable = Reading::new(&bytes, &own).unusable();
+    let number = *unusable.get(random.below(unusable.len().max(1)))?;
+    let sheet = Sheet::read(&bytes).expect("a sheet that passes");
+    let own = Plan::read(&sheet, &own).expect("its own plan");
+    let (step, of) = (sheet.step(number), &own.groups.of);
+    let starts = starts(&sheet, &own.groups, of[step.machine] as usize);
+    let plan = written(&sheet, &own.groups, |group, from, wanted| {
+        let starting = group == of[step.machine] as usize && starts[from].contains(&(number as u8));
+        if starting {
+            [1, number as u8]
+        } else {
+            own.entries(group, from)[wanted]
+        }
+    });
+    let live = (0..sheet.machines()).map(|machine| random.one_of(sheet.live(machine)));
+    let mut state = untagged(&live.collect::<Vec<_>>());
+    set_mode(&mut state, step.machine, step.from);
+    for &[machine, allowed] in step.guards {
+        if of[machine as usize] == of[step.machine] {
+            set_mode(&mut state, machine as usize, random.one_of(allowed));
+        }
+    }
+    let outside = step.guards.iter().map(|guard| guard[0] as usize);
+    let outside: Vec<_> = outside
+        .filter(|&machine| of[machine] != of[step.machine])
+        .collect();
+    set_tag(&mut state, outside[random.below(outside.len())], 1);
+    let mut goal: Vec<u8> = (0..sheet.machines())
+        .map(|machine| sheet.all(machine))
+        .collect();
+    goal[step.machine] = 1 << step.to;
+    Some(Lent {
+        plan: Slot::new(&plan),
+        state: Slot::new(&state),
+        goal: Slot::new(&goal),
+        ..Lent::sheet(&bytes)
+    })
+}
+
 /// Writes a plan, given the entry for a group, its mode and the wanted one.
 fn written(
     sheet: &Sheet,
@@ -513,8 +582,18 @@ fn written(
 /// are full of other bytes.
 pub fn lent(random: &mut Random) -> Lent {
     let bytes = sheet_bytes(random);
-    let mut lent = Lent::sheet(&bytes);
-    match Sheet::read(&bytes) {
+    lent_with(random, &bytes)
+}
+
+/// Everything lent with a sheet in which some machines have no moves.
+pub fn idle_lent(random: &mut Random) -> Lent {
+    let bytes = idle_sheet(random);
+    lent_with(random, &bytes)
+}
+
+fn lent_with(random: &mut Random, bytes: &[u8]) -> Lent {
+    let mut lent = Lent::sheet(bytes);
+    match Sheet::read(bytes) {
         Ok(sheet) => lend(random, &sheet, &mut lent),
         Err(_) => {
             lent.wishes = Slot::new(&random.byte_run(20));

@@ -106,6 +106,22 @@ pub fn chain(number: u8) -> Vec<u8> {
     (0..number).fold(sheet, linked).end()
 }
 
+/// Machines of two modes in four rows of eight. Those of the first row go on and off
+/// by themselves; each of the others needs all of the row before on, in every one
+/// of its moves.
+pub fn eight_names() -> Vec<u8> {
+    let sheet = Builder::new().machines(MAX_MACHINES, 2);
+    let first = (0..8).fold(sheet, |sheet, machine| sheet.ring(machine, 2, |_| vec![]));
+    let later = (0..MAX_MOVES as u8 - 16).map(|number| (8 + number % 24, number / 24));
+    later
+        .fold(first, |sheet, (machine, turn)| {
+            let before = machine / 8 * 8 - 8;
+            let guards: Vec<_> = (before..before + 8).map(|other| [other, 2]).collect();
+            sheet.step([machine, turn % 2, (turn + 1) % 2, 1 + turn], &guards)
+        })
+        .end()
+}
+
 /// Pairs of eight-mode machines, 64 modes to a group, then one-mode machines.
 /// With `rings`, every mode of a group leads to every other.
 pub fn blocks(pairs: u8, singles: usize, rings: bool) -> Vec<u8> {

@@ -4,7 +4,7 @@ use crate::groups::{Groups, MAX_GROUP_MODES};
 use crate::plan::{BOUND, GROUP_NUMBERS, NO_ROUTE, TABLE};
 use crate::records::Records;
 use crate::sheet::{Sheet, END, MAX_MACHINES};
-use crate::{refuse, Reply};
+use crate::{bits, refuse, Reply};
 
 /// A plan whose shape fits a sheet, the sheet's own or not.
 pub struct Plan<'a> {
@@ -41,6 +41,12 @@ impl<'a> Plan<'a> {
     pub fn entries(&self, group: usize, from: usize) -> &'a [[u8; 2]] {
         let size = self.groups.size(group) as usize;
         &self.tables[group][from * size..][..size]
+    }
+
+    /// Whether a group's mode has a route into a set.
+    pub fn attains(&self, group: usize, from: usize, wanted: u64) -> bool {
+        let entries = self.entries(group, from);
+        bits(wanted).any(|mode| entries[mode][0] != NO_ROUTE[0])
     }
 
     /// The modes that a group's mode has a route to.

@@ -8,7 +8,7 @@ pub const MAX_MOVES: usize = 250;
 pub const MAX_MODES: u8 = 8;
 
 const MACHINE: u16 = 1;
-const MOVE: u16 = 2;
+pub const MOVE: u16 = 2;
 pub const END: u16 = 3;
 
 /// A sheet that passed refusals 1 to 8. Moves stay in the lent file; the index

@@ -80,7 +80,7 @@ fn the_kitchen_has_layers_and_groups() {
     assert_eq!(sizes[13..], [9, 9, 27]);
     let mut depth = vec![0; groups.count];
     for group in 0..groups.count {
-        let below = (0..group).filter(|&lower| groups.named(group) >> lower & 1 == 1);
+        let below = (0..group).filter(|&lower| groups.named[group] >> lower & 1 == 1);
         depth[group] = below.map(|lower| depth[lower] + 1).max().unwrap_or(0);
     }
     assert_eq!(

@@ -5,7 +5,7 @@ use duty_compare::both::{apply, check_sheet, next_command, own_plan, plan_length
 use duty_compare::command::{Command, Effect, Next};
 use duty_compare::inputs::crowded;
 use duty_compare::samples::{
-    blocks, circle, dials, fullest, longest_plan, product, snake, Builder,
+    blocks, circle, dials, eight_names, fullest, longest_plan, product, snake, Builder,
 };
 use duty_compare::state::untagged;
 use duty_compare::walk::bound_of;
@@ -121,6 +121,15 @@ fn the_longest_plan_has_32928_bytes() {
     let plan = own_plan(&longest_plan()).expect("a plan");
     assert_eq!(plan.len(), 32_928);
     assert_eq!(bound_of(&plan), 4);
+}
+
+#[test]
+fn eight_groups_named_by_each_move_are_eight_costs() {
+    let sheet = eight_names();
+    assert_eq!(check_sheet(&sheet), Ok(256 * 250 + 32));
+    assert_eq!(sheet.len(), 32 * 6 + 16 * 8 + 234 * 24 + 4);
+    // By rows: 1, then 1 + 8 times the cost of one of the row before.
+    assert_eq!(bound(&sheet), Ok(8 * (1 + 9 + 73 + 585)));
 }
 
 #[test]

@@ -169,31 +169,32 @@ fn an_entry_followed_must_name_a_fitting_move() {
 
 #[test]
 fn no_route_for_a_guard_is_an_unfit_entry() {
-    // The fan's move needs the board, whose table has no way on.
+    // The fan's move needs the board, whose table has no way on. So that move is
+    // not usable, also where the board is on.
     let at = entry_at(BOARD, 2, 0, 1);
-    let goal = [3, 2, 2];
-    assert_eq!(
-        edited(|plan| plan[at] = 255, [0, 0, 0], &goal),
-        refuse(15, 0)
-    );
-    // Where the board is to be on itself, it may come to a dead end before.
-    assert_eq!(
-        edited(|plan| plan[at] = 255, [0, 0, 0], &[2, 2, 2]),
-        refuse(18, 0)
-    );
+    let stuck = |modes, goal: &[u8]| edited(|plan| plan[at] = 255, modes, goal);
+    assert_eq!(stuck([0, 0, 0], &[3, 2, 2]), refuse(15, 0));
+    assert_eq!(stuck([1, 0, 0], &[3, 2, 2]), refuse(15, 0));
+    // Where the board is to be on itself, it has no route, and nobody needs it.
+    assert_eq!(stuck([0, 0, 0], &[2, 2, 2]), refuse(17, 0));
 }
 
 #[test]
 fn a_mode_without_a_route_to_itself_is_taken_at_its_word() {
-    // The board has no route at all from off, and so none to itself.
-    let blank = |plan: &mut Vec<u8>| plan[BOARD..BOARD + 8].fill(255);
-    assert_eq!(edited(blank, [1, 0, 0], &[3, 2, 1]), send(1, 1));
-    let trap = |plan: &mut Vec<u8>| {
-        let at = entry_at(BOARD, 2, 0, 0);
-        plan[at..at + 4].fill(255);
-        assert_eq!(plan[at + 6..at + 8], HERE);
+    // The board is to go off in the end, where it has no route to itself.
+    let off = entry_at(BOARD, 2, 0, 0);
+    let without = |at: usize, goal: &[u8]| {
+        let blank = |plan: &mut Vec<u8>| {
+            assert_eq!(plan[at..at + 2], HERE);
+            plan[at..at + 2].fill(255);
+        };
+        edited(blank, [1, 0, 0], goal)
     };
-    assert_eq!(edited(trap, [1, 0, 0], &[3, 2, 1]), refuse(18, 0));
+    assert_eq!(edited(|_| (), [1, 0, 0], &[1, 2, 1]), send(1, 1));
+    assert_eq!(without(off, &[1, 2, 1]), refuse(18, 0));
+    assert_eq!(without(off, &[3, 2, 1]), send(1, 1));
+    // What needs it on is not usable, if it has no route to itself there.
+    assert_eq!(without(off + 6, &[3, 2, 1]), refuse(15, 0));
 }
 
 #[test]

@@ -7,7 +7,7 @@ use duty_compare::expected::tags_change;
 use duty_compare::faults::faulty_sheets;
 use duty_compare::graph::MAX_TEXT;
 use duty_compare::pictures::own_text;
-use duty_compare::random::{lent, sheet_bytes, Random};
+use duty_compare::random::{idle_lent, lent, sheet_bytes, Random};
 use duty_compare::samples::{
     blocks, circle, dials, filter, fullest, longest_plan, product, snake, stove, Builder,
 };
@@ -258,6 +258,18 @@ fn on_random_rounds() {
         rounds < 20_000 || tally.least() >= Some(10),
         "a reply hardly tried"
     );
+}
+
+/// On sheets in which some machines have no moves, so that moves of others are
+/// often not usable.
+#[test]
+fn on_random_rounds_with_idle_machines() {
+    let (rounds, first) = (setting("DUTY_ROUNDS", 20_000), setting("DUTY_SEED", 1));
+    for seed in first..first + rounds {
+        let input = idle_lent(&mut Random::new(seed));
+        all_agree(&input, &format!("DUTY_ROUNDS=1 DUTY_SEED={seed}"));
+    }
+    say(format!("{rounds} random rounds with idle machines agree"));
 }
 
 /// Every slice of up to so many bytes from 0 to 3.

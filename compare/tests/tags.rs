@@ -4,7 +4,8 @@
 
 use duty_compare::both::{apply, next_command, own_plan, walk};
 use duty_compare::command::{Command, Effect, Next};
-use duty_compare::expected::{judged, obeyed};
+use duty_compare::definition::Reading;
+use duty_compare::expected::obeyed;
 use duty_compare::random::{goal, lent, sheet, state, Random};
 use duty_compare::samples::stove;
 use duty_compare::sheet::Sheet;
@@ -99,12 +100,12 @@ fn a_tag_hinders_where_16_looks_and_nowhere_else() {
             continue;
         }
         let groups = groups(plan, &state);
-        let judged = judged(sheet, &groups, &state, goal);
+        let judged = Reading::new(sheet, plan).judged(&state, goal);
         for (machine, group) in groups.iter().enumerate() {
             let hung = next_command(sheet, plan, &tagged(&state, machine), goal);
             let smallest = groups.iter().position(|other| other == group);
             let by_tag = refuse(16, smallest.expect("its own at least"));
-            if !judged.contains(group) {
+            if !judged.contains(&(*group as usize)) {
                 assert_eq!(hung, reply, "seed {seed}: machine {machine}");
                 aside[reply.is_ok_and(|next| next != Next::Done) as usize] += 1;
             } else if reply.is_ok() {

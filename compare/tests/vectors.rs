@@ -1,17 +1,21 @@
 //! Both versions against recorded replies, where they are at hand: in
 //! `shared/vectors` and `shared/ticket-vectors` beside the repository, or where
-//! DUTY_VECTORS and DUTY_TICKET_VECTORS say.
+//! DUTY_VECTORS and DUTY_TICKET_VECTORS say. `changed.txt` has what requests made
+//! of the older ones.
 
 use duty_compare::calls::{Call, Lent, Side, Slot};
 use duty_compare::command::{Command, Effect, Next};
+use duty_compare::definition::Reading;
 use duty_compare::library::Library;
 use duty_compare::pictures::{own_text, shown, Drawing};
 use duty_compare::plan::MIN_SCRATCH;
+use duty_compare::shape::Plan;
+use duty_compare::sheet::Sheet;
 use duty_compare::state::untagged;
 use duty_compare::version::{Rust, Version};
-use duty_compare::walk::walk;
+use duty_compare::walk::{bound_of, own_plan, walk};
 use duty_compare::{refuse, say, Reply};
-use std::collections::HashMap;
+use std::collections::{BTreeSet, HashMap};
 use std::fs;
 use std::hint::black_box;
 use std::io::ErrorKind;
@@ -28,6 +32,25 @@ struct Recording {
     request: u32,
 }
 
+/// The recorded calls of document 01 that requests have changed, with their replies
+/// since.
+const CHANGED: &str = include_str!("changed.txt");
+
+/// What a recorded call or walk of document 01 gets since it was changed, if it was.
+fn changed(item: &str) -> Option<&'static str> {
+    let items = CHANGED.lines().filter_map(|line| line.split_once(" = "));
+    let mut named = items.filter(|(name, _)| *name == item);
+    named.next().map(|(_, reply)| reply)
+}
+
+/// How many of the recorded ones were compared with what they get since, in words.
+fn as_changed(number: u32) -> String {
+    match number {
+        0 => String::new(),
+        _ => format!(", {number} of them as changed since"),
+    }
+}
+
 /// The calls of document 01.
 const FIRST: Recording = Recording {
     setting: "DUTY_VECTORS",
@@ -40,8 +63,8 @@ const FIRST: Recording = Recording {
 const LATEST: Recording = Recording {
     setting: "DUTY_TICKET_VECTORS",
     folder: "ticket-vectors",
-    file: "L6.txt",
-    request: 6,
+    file: "L7.txt",
+    request: 7,
 };
 
 impl Recording {
@@ -107,6 +130,11 @@ impl Recording {
         } else {
             untagged(recorded)
         }
+    }
+
+    /// What a recorded item gets since it was changed, if it was.
+    fn changed(&self, item: &str) -> Option<&'static str> {
+        changed(item).filter(|_| self.request == 0)
     }
 
     /// As much of a reply as the file tells: all of it, but of applying without
@@ -206,6 +234,10 @@ impl<'a> Blobs<'a> {
                 lent.scratch.get_mut().fill(0);
                 Ok(0)
             }
+            ["bound", bound] => {
+                set_bound(lent.plan.get_mut(), number(bound));
+                Ok(0)
+            }
             ["done"] => Ok(Next::Done.value()),
             ["command", machine, command] => Ok(Next::Send(to(machine, command)).value()),
             [word @ ("changed" | "same"), state, ref step @ ..] => {
@@ -221,6 +253,12 @@ impl<'a> Blobs<'a> {
             _ => panic!("unknown reply {reply}"),
         }
     }
+}
+
+/// Writes another bound into a plan.
+fn set_bound(plan: &mut [u8], bound: u32) {
+    let at = plan.len() - 8;
+    plan[at..at + 4].copy_from_slice(&bound.to_le_bytes());
 }
 
 /// What a file tells of a command that was applied, with the move or without.
@@ -276,19 +314,25 @@ fn recorded(text: &str, of_kind: fn(&str) -> bool) -> Vec<(&str, &str)> {
 fn calls_agree(recording: Recording, version: &str, side: fn(&Call) -> Side) {
     let Some(text) = recording.text() else { return };
     let (blobs, calls) = (Blobs::read(&recording, &text), calls(&text));
+    let mut others = 0;
     for (call, reply) in &calls {
         let (name, mut lent) = blobs.lent(call);
         let mut left = lent.clone();
-        let expected = blobs.reply(reply, &mut left);
+        let mut expected = blobs.reply(reply, &mut left);
+        if let Some(reply) = recording.changed(call) {
+            expected = blobs.reply(reply, &mut left);
+            others += 1;
+        }
         let version = side(Call::named(name).expect("a call"));
         let reply = version(black_box(&mut lent));
         assert_eq!(recording.told(name, reply), expected, "{call}");
         assert!(black_box(lent) == left, "{call}: other bytes left");
     }
     say(format!(
-        "{} recorded calls of {} agree with {version}",
+        "{} recorded calls of {} agree with {version}{}",
         calls.len(),
-        recording.file
+        recording.file,
+        as_changed(others)
     ));
 }
 
@@ -360,6 +404,18 @@ fn bytes(path: PathBuf) -> Vec<u8> {
     }
 }
 
+/// What a case is called where it was changed.
+fn walk_name(path: &Path) -> String {
+    let name = path.file_name().unwrap_or_default().to_string_lossy();
+    format!("walk {name}")
+}
+
+/// The lines that a walk prints, as a file has them: a comma for each space.
+fn printed_lines(lines: &str) -> String {
+    let line = |line: &str| line.replace(',', " ") + "\n";
+    lines.split(' ').map(line).collect()
+}
+
 /// Makes every recorded walk of the latest file in one version.
 fn latest_walks_agree<V: Version>() {
     let Some(text) = LATEST.text() else { return };
@@ -368,11 +424,9 @@ fn latest_walks_agree<V: Version>() {
         let [_, sheet, state, goal] = fields(item)[..] else {
             panic!("unknown walk {item}");
         };
-        let line = |line: &str| line.replace(',', " ") + "\n";
-        let expected: String = lines.split(' ').map(line).collect();
         let state = blobs.state(state);
         let printed = walk::<V>(&blobs.by_name[sheet], state.get(), &hex(goal));
-        assert_eq!(printed, expected, "{item}");
+        assert_eq!(printed, printed_lines(lines), "{item}");
     }
     say(format!(
         "{} recorded walks of {} agree with {}",
@@ -485,12 +539,16 @@ fn a_command_line_without_its_move_is_seen() {
 /// Walks every recorded case in one version.
 fn walks_agree<V: Version>() {
     let Some(folder) = FIRST.folder() else { return };
-    let mut count = 0;
+    let (mut count, mut others) = (0, 0);
     for entry in fs::read_dir(folder).expect("the vectors") {
         let path = entry.expect("an entry").path();
         if is_case(&path) {
             let read = |name| bytes(path.join(name));
-            let expected = fs::read_to_string(path.join("expect.txt")).expect("expect.txt");
+            let mut expected = fs::read_to_string(path.join("expect.txt")).expect("expect.txt");
+            if let Some(lines) = changed(&walk_name(&path)) {
+                expected = printed_lines(lines);
+                others += 1;
+            }
             let state = FIRST.state(&read("state.bin"));
             let printed = walk::<V>(&read("sheet.bin"), &state, &read("wish.bin"));
             assert_eq!(without_moves(&printed), expected, "{}", path.display());
@@ -499,8 +557,9 @@ fn walks_agree<V: Version>() {
     }
     assert!(count > 0, "no case folders");
     say(format!(
-        "{count} recorded walks without moves agree with {}",
-        V::NAME
+        "{count} recorded walks without moves agree with {}{}",
+        V::NAME,
+        as_changed(others)
     ));
 }
 
@@ -512,4 +571,106 @@ fn recorded_walks_agree_with_the_rust_version() {
 #[test]
 fn recorded_walks_agree_with_the_library() {
     walks_agree::<Library>();
+}
+
+/// The definition against the latest calls: the next commands that come to 16, and
+/// the bounds.
+#[test]
+fn latest_calls_agree_with_the_definition() {
+    let Some(text) = LATEST.text() else { return };
+    let blobs = Blobs::read(&LATEST, &text);
+    let mut count = 0;
+    for (call, reply) in calls(&text) {
+        let (name, mut lent) = blobs.lent(call);
+        let mut recorded = blobs.reply(reply, &mut lent);
+        match name {
+            "next" if in_shape(&lent) && !recorded.is_err_and(|refusal| refusal.number < 15) => {}
+            "plan" if recorded.is_ok() => recorded = Ok(bound_of(lent.plan.get())),
+            _ => continue,
+        }
+        assert_eq!(by_definition(name, &lent)[1], recorded, "{call}");
+        count += 1;
+    }
+    assert!(count > 0, "no such call is recorded");
+    say(format!(
+        "{count} recorded calls of {} agree with the definition",
+        LATEST.file
+    ));
+}
+
+fn in_shape(lent: &Lent) -> bool {
+    let sheet = Sheet::read(lent.sheet.get());
+    sheet.is_ok_and(|sheet| Plan::read(&sheet, lent.plan.get()).is_ok())
+}
+
+/// What the definition gives with all moves, as before L7, and what with usable
+/// moves alone.
+fn by_definition(name: &str, lent: &Lent) -> [Reply<u32>; 2] {
+    let (sheet, plan) = (lent.sheet.get(), lent.plan.get());
+    let reading = Reading::new(sheet, plan);
+    let reply = |reading: &Reading| match name {
+        "next" => {
+            let next = reading.next(lent.state.get(), lent.goal.get());
+            next.map(Next::value)
+        }
+        _ => Ok(reading.bound() as u32),
+    };
+    let since = reply(&reading);
+    [reply(&reading.before()), since]
+}
+
+/// Every change that is listed is met once at least, and is one that L7 makes.
+#[test]
+fn changed_calls_are_those_of_usable_moves() {
+    let Some(text) = FIRST.text() else { return };
+    let (blobs, mut names) = (Blobs::read(&FIRST, &text), BTreeSet::new());
+    for (call, reply) in calls(&text) {
+        let Some(since) = changed(call) else { continue };
+        let (name, mut lent) = blobs.lent(call);
+        let mut recorded = blobs.reply(reply, &mut lent);
+        let mut now = blobs.reply(since, &mut lent.clone());
+        if name == "plan" {
+            recorded = Ok(bound_of(lent.plan.get()));
+            now = Ok(number(since.strip_prefix("bound ").expect("a bound")));
+        }
+        assert_eq!(by_definition(name, &lent), [recorded, now], "{call}");
+        names.insert(call.to_string());
+    }
+    let folder = FIRST.folder().expect("the vectors");
+    for entry in fs::read_dir(folder).expect("the vectors") {
+        let path = entry.expect("an entry").path();
+        let name = walk_name(&path);
+        if changed(&name).is_some() {
+            walk_is_changed(&path, &name);
+            names.insert(name);
+        }
+    }
+    let listed = CHANGED.lines().filter_map(|line| line.split_once(" = "));
+    let listed: Vec<_> = listed.map(|(item, _)| item.to_string()).collect();
+    assert_eq!(listed.iter().cloned().collect::<BTreeSet<_>>(), names);
+    assert_eq!(listed.len(), names.len(), "a change is listed twice");
+}
+
+/// The walk of a case was refused for moves that are not usable, or has another
+/// bound, by the definition.
+fn walk_is_changed(path: &Path, name: &str) {
+    let recorded = fs::read_to_string(path.join("expect.txt")).expect("expect.txt");
+    let since = printed_lines(changed(name).expect("a change"));
+    let sheet = bytes(path.join("sheet.bin"));
+    let plan = own_plan::<Rust>(&sheet).expect("a plan");
+    let mut lent = Lent::sheet(&sheet);
+    lent.plan = Slot::new(&plan);
+    lent.state = Slot::new(&FIRST.state(&bytes(path.join("state.bin"))));
+    lent.goal = Slot::new(&bytes(path.join("wish.bin")));
+    let [before, now] = by_definition("plan", &lent).map(|bound| bound.expect("a bound"));
+    let end = |bound: u32| format!(" bound {bound}\n");
+    assert!(since.ends_with(&end(now)), "{name}: {now}");
+    match recorded.strip_suffix(&end(before)) {
+        Some(front) => assert_eq!(since, front.to_string() + &end(now), "{name}"),
+        None => {
+            let refusal = by_definition("next", &lent)[0].expect_err("a refusal");
+            let told = format!("refused {} {}\n", refusal.number, refusal.place);
+            assert_eq!(recorded, told, "{name}");
+        }
+    }
 }

@@ -1,19 +1,20 @@
-//! Random sheets walked in both versions: an attainable goal is reached within
-//! the bound, and each command is the move that acts. Then the walks of
+//! Random sheets walked in both versions, also those with moves that are never
+//! usable: an attainable goal is reached within the bound, and each command is the
+//! move that acts. Then the walks of
 //! `examples/walks`, in the Rust version: the program's own are compared by
 //! `run.sh`.
 
 use duty_compare::both::own_plan;
 use duty_compare::expected::{meets, obeyed};
-use duty_compare::random::{goal, sheet, state, Random};
+use duty_compare::random::{goal, idle_sheet, sheet, state, Random};
 use duty_compare::sheet::Sheet;
 use duty_compare::version::Rust;
 use duty_compare::walk::walk;
 use std::fs;
 use std::path::Path;
 
-#[test]
-fn attainable_goals_are_reached_within_the_bound() {
+/// Walks random sheets of a kind; how many walks had a command.
+fn walks(sheet: fn(&mut Random) -> Vec<u8>) -> u32 {
     let mut walked = 0;
     for seed in 0..4000 {
         let random = &mut Random::new(seed);
@@ -29,7 +30,14 @@ fn attainable_goals_are_reached_within_the_bound() {
             walked += (count > 0) as u32;
         }
     }
-    assert!(walked > 1000, "only {walked} walks had a command");
+    walked
+}
+
+#[test]
+fn attainable_goals_are_reached_within_the_bound() {
+    for walked in [walks(sheet), walks(idle_sheet)] {
+        assert!(walked > 1000, "only {walked} walks had a command");
+    }
 }
 
 /// Walks every folder of `examples/walks`; a missing file counts as empty.
@@ -47,5 +55,5 @@ fn example_walks_print_what_is_expected() {
             count += 1;
         }
     }
-    assert_eq!(count, 11, "example walks");
+    assert_eq!(count, 12, "example walks");
 }
