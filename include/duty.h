@@ -76,17 +76,21 @@ uint64_t duty_sheet(const uint8_t *sheet, size_t n);
 uint64_t duty_plan_length(const uint8_t *sheet, size_t n);
 
 /* Writes a sheet's plan (refusals 1 to 12): plan_n must be the plan's length,
- * scratch_n DUTY_SCRATCH or more, and all of the scratch is left zero. Value: 0. */
+ * scratch_n DUTY_SCRATCH or more, and all of the scratch is left zero. A plan that
+ * was written while moves that are never usable still counted may have a larger
+ * bound than is written now; it can be followed as before. Value: 0. */
 uint64_t duty_plan(const uint8_t *sheet, size_t n, uint8_t *plan, size_t plan_n,
                    uint8_t *scratch, size_t scratch_n);
 
 /* The next command toward a wish, for any plan whose shape fits the sheet
  * (refusals 1 to 8, 15, 13, 14, 16 to 18, then 15 for an entry that cannot be
- * followed). 13 names the first machine with a mode that it does not have or a
- * tag above 1. 16 also stands for a tag on a machine of a group that is not as
- * wished, or of one that such a group needs, directly or through others, even if
- * the machine is as needed: no command is ever sent to a tagged machine. All bytes
- * are only read. Value: 0 for done, else 65536 + 256 * machine + command. */
+ * followed, or whose move is not usable by the routes that the plan shows). 13
+ * names the first machine with a mode that it does not have or a tag above 1. 16
+ * looks at each group that is not as wished and at those that it needs, directly or
+ * through others, 18 at the latter; usable moves alone make a group need another.
+ * 16 also stands for a tag on a machine there, even if the machine is as needed: no
+ * command is ever sent to a tagged machine. All bytes are only read. Value: 0 for
+ * done, else 65536 + 256 * machine + command. */
 uint64_t duty_next(const uint8_t *sheet, size_t n, const uint8_t *plan, size_t plan_n,
                    const uint8_t *state, size_t state_n, const uint8_t *wish, size_t wish_n);
 
