@@ -18,7 +18,6 @@ use Rattle.plan.specs.Shown.{usableIn}
 use Rattle.plan.proofs.Planned.{planned-lawful}
 use Rattle.command.specs.Goal.{Masks, goalMasks, met}
 use Rattle.command.specs.Attainable.{groups, present}
-use Rattle.command.specs.Ancestors.{upstreamIn}
 use Rattle.command.specs.Covered.{Admitted}
 use Rattle.command.specs.Next.{Next, targetOf, holdsOutside, unfitWith, prepareBy, followWith, fulfilWith}
 use Rattle.command.specs.Run.{lend, ask, afterAll}
@@ -71,7 +70,7 @@ module _ (m : Model) (plan state : List ℕ) (counts other : ℕ → Bool) (more
       ∙ follow-more masks k (λ needs. fulfil-more needs k) (sym (Following.fulfil-unmet m plan state counts masks k f) ∙ e))
 
 pub fewer-upstream : FewerUpstream
-fewer-upstream m plan k a valid shaped h = upstream-more m plan (usableIn m plan) everyMove (λ v t. refl) k a
+fewer-upstream m plan = upstream-more m plan (usableIn m plan) everyMove (λ v t. refl)
 
 pub covered-still : CoveredStill
 unfolding afterAll
@@ -83,9 +82,9 @@ covered-still sheet plan state goal buffer scratch d parsed planned state-fits g
       goal-fits = goal-fits;
       covered = record {
         itself-live = c .itself-live;
-        upstream-live = λ k a h u up. c .upstream-live k a h u (fewer k a up);
+        upstream-live = λ k a h u up. c .upstream-live k a h u (fewer-upstream m plan k a up);
         attains = c .attains;
-        no-dead-end = λ k a h u up. c .no-dead-end k a h u (fewer k a up);
+        no-dead-end = λ k a h u up. c .no-dead-end k a h u (fewer-upstream m plan k a up);
       };
     } in
     let (state-good, goal-good, covers) =
@@ -99,6 +98,3 @@ covered-still sheet plan state goal buffer scratch d parsed planned state-fits g
           ∙ sym (fulfil-more m plan state (usableIn m plan) everyMove (λ v t. refl) (goalMasks m goal)
           (groupCount (groupsIn m plan)) (sym now ∙ answered .1));
     }
-  where
-    fewer : (k a : ℕ) → upstreamIn (d .model) plan (usableIn (d .model) plan) k a ≡ true → upstreamIn (d .model) plan everyMove k a ≡ true
-    fewer = upstream-more (d .model) plan (usableIn (d .model) plan) everyMove (λ v t. refl)

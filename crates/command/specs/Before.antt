@@ -1,15 +1,14 @@
 -- What stays of the replies that were given when every move counted, usable or not.
-use Prim.Native.Nat.{ℕ, _<_}
+use Prim.Native.Nat.{ℕ}
 use mathlib.Core.Path.{_≡_}
 use mathlib.Core.List.{List}
 use mathlib.Core.Bool.{true}
 use Rattle.common.specs.Reply.{given}
 use Rattle.sheet.specs.Model.{Model}
-use Rattle.sheet.specs.Valid.{Valid}
 use Rattle.sheet.specs.Parse.{Parsed, parse}
 use Rattle.plan.specs.Groups.{groupCount}
 use Rattle.plan.specs.Planning.{planReply}
-use Rattle.plan.specs.Reading.{groupsIn, wellShaped, everyMove}
+use Rattle.plan.specs.Reading.{groupsIn, everyMove}
 use Rattle.plan.specs.Shown.{usableIn}
 use Rattle.command.specs.Goal.{goalMasks}
 use Rattle.command.specs.Ancestors.{upstreamIn}
@@ -17,11 +16,10 @@ use Rattle.command.specs.TurnedDown.{StateFits, GoalFits}
 use Rattle.command.specs.Covered.{Attains, Safe, Covered, Admitted}
 use Rattle.command.specs.Next.{fulfilWith, nextReply}
 
--- Upstream can only shrink, under any plan in shape.
+-- Upstream can only shrink, under any plan.
 abbrev pub FewerUpstream : Type 0
 FewerUpstream =
-    (m : Model) (plan : List ℕ) (k a : ℕ) → Valid m → wellShaped m plan ≡ true → k < groupCount (groupsIn m plan)
-    → upstreamIn m plan (usableIn m plan) k a ≡ true → upstreamIn m plan everyMove k a ≡ true
+    (m : Model) (plan : List ℕ) (k a : ℕ) → upstreamIn m plan (usableIn m plan) k a ≡ true → upstreamIn m plan everyMove k a ≡ true
 
 -- A goal that was covered is covered, and gets the reply that the method gave it.
 pub record StillReplied (m : Model) (sheet plan state goal : List ℕ) : Type 0 where

@@ -9,13 +9,6 @@ ghost use Rattle.sets.specs.Kept.Sets.{alone, below, union, both, less, 
 // Numbers that a set can hold.
 pub const NUMBERS: usize = 64;
 
-// The set with no number.
-pub fn none() -> u64
-    ensures { λ r. ⌜ r ≡ 0 ⌝ }
-{
-    0
-}
-
 // The set of one number.
 pub fn one(i: usize) -> u64
     requires { ⌜ i < 64 ⌝ }
