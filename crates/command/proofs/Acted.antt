@@ -1,6 +1,6 @@
 -- What applying a command answers and leaves, by the move that is found: none, or one that answers.
 -- Assumes nothing.
-use Prim.Native.Nat.{ℕ, _-_, _*_, _<_}
+use Prim.Native.Nat.{ℕ, _*_, _<_}
 use mathlib.Core.Path.{_≡_, sym, ap, _∙_}
 use mathlib.Core.Logic.{⊎-elim}
 use mathlib.Core.List.{List}
@@ -8,7 +8,7 @@ use mathlib.Core.Bool.{true, false}
 use native.Mathlib.Omega.{arith}
 use borrow.Author.Tests.{lt-ltb}
 use lib.Dec.{ltb}
-use lib.ListN.{length, getD}
+use lib.ListN.{length, getD, take}
 use Rattle.common.specs.Reply.{Reply, given, refused, clear, unless}
 use Rattle.common.proofs.Reply.{unless-clear}
 use Rattle.common.proofs.Clear.{clear-each}
@@ -20,8 +20,7 @@ use Rattle.sheet.specs.Refusal.{numberOf, verdictSays}
 use Rattle.sheet.specs.Record.{byte, bodyAt}
 use Rattle.sheet.specs.Model.{Model, moveAt, moveOf}
 use Rattle.sheet.specs.Kept.Indexed.{Indexes}
-use Rattle.sheet.proofs.Indexed.{indexes-valid, indexes-moves, indexes-body}
-use Rattle.plan.proofs.MoveTurns.{turn-present, turn-move}
+use Rattle.sheet.proofs.Indexed.{indexes-valid, indexes-listed, listed-long, listed-move}
 use Rattle.command.specs.State.{withMode, stateFaults}
 use Rattle.command.specs.Apply.{Answers, Applied, Effect, actingMove, stateBy, appliedBy, effectReply, applyReply, stateAfter}
 use Rattle.command.proofs.Shape.{sound-state}
@@ -46,11 +45,14 @@ module _ {file : List ℕ} {x : Sheet} {m : Model} (i : Indexes file x m) (state
     acted-answers : Answers m state machine command v
     acted-answers = rw e (⊎-elim (λ f. f) (λ f. absurd (n (e ∙ f .0))) (found-or-none m state machine command))
 
-    pub acted-place : {w : ℕ} → w ≡ v → w < x .moves
-    acted-place q = omega (arith, acted-answers .there, indexes-moves i)
+    abbrev places : List ℕ
+    places = take (x .moves) (x .places)
 
-    pub acted-long : {w : ℕ} {body : List ℕ} → w ≡ v → body ≡ bodyAt file (getD (x .bodies) w 0 - 4) → 3 < length body
-    acted-long {w} q b = rw b (indexes-body i w (turn-present i (acted-place q)) .long)
+    pub acted-place : {w : ℕ} → w ≡ v → w < length places
+    acted-place q = omega (arith, acted-answers .there, indexes-listed i .one-each)
+
+    pub acted-long : {w : ℕ} {body : List ℕ} → w ≡ v → body ≡ bodyAt file (getD places w 0) → 3 < length body
+    acted-long q b = listed-long (indexes-listed i) (acted-place q) b
 
     pub acted-within : clear (stateFaults m state) ≡ true → 2 * machine < length state
     acted-within h =
@@ -67,13 +69,13 @@ module _ {file : List ℕ} {x : Sheet} {m : Model} (i : Indexes file x m) (state
         let below = lt-ltb v 255 (omega (arith, acted-answers .there, indexes-valid i .few-moves)) in
         ap (λ b. given (record { changed = b; move = v })) (sym below) ∙ ap told e
 
-    pub left-some : {w : ℕ} {body after : List ℕ} → w ≡ v → body ≡ bodyAt file (getD (x .bodies) w 0 - 4)
+    pub left-some : {w : ℕ} {body after : List ℕ} → w ≡ v → body ≡ bodyAt file (getD places w 0)
         → after ≡ withMode state machine (byte body 2) → after ≡ stateBy m state machine command
     unfolding moveOf
     left-some {w} {body} q b l =
         let moves = answer-moves m state machine command (indexes-valid i) acted-answers in
         let to : byte body 2 ≡ moveAt m v .to =
-        ap (λ u. u .to) (turn-move i (acted-place q) b) ∙ ap (λ k. moveAt m k .to) q in
+        ap (λ u. u .to) (listed-move (indexes-listed i) (acted-place q) b) ∙ ap (λ k. moveAt m k .to) q in
         l ∙ (ap (withMode state machine) to ∙ sym moves)
 
 -- `test`: 13 first

@@ -1,6 +1,6 @@
 -- Whether all needs of a move hold, whether a move answers a command, and the first move that does.
 -- Assumes nothing.
-use Prim.Native.Nat.{ℕ, suc, _+_, _-_, _*_, _/_, _≤_, _<_, zero-le}
+use Prim.Native.Nat.{ℕ, _+_, _≤_, _<_}
 use mathlib.Core.Path.{_≡_, refl, sym, _∙_}
 use mathlib.Core.List.{List}
 use mathlib.Core.Bool.{Bool, true, false, not, _&&_, and-true}
@@ -9,16 +9,16 @@ use borrow.Author.Count.{below-none, below-more}
 use borrow.Author.Tests.{not-true, not-false, eq-eqb, ne-eqb}
 use lib.Dec.{eqb}
 use lib.ListN.{length, getD}
-use Rattle.common.specs.Lists.{upTo, all}
+use Rattle.common.specs.Lists.{all}
 use Rattle.common.specs.Bits.{bit}
-use Rattle.common.proofs.Bools.{and-intro, and-false-left, and-false-right, true-false, false-of-not-true}
-use Rattle.common.proofs.Lists.{all-at, all-append, all-map}
-use Rattle.common.proofs.Members.{upTo-mem}
+use Rattle.common.proofs.Bools.{and-intro, and-false-left, and-false-right, false-of-not-true}
+use Rattle.common.proofs.Lists.{all-append}
 use Rattle.common.proofs.Search.{find-upTo-is, find-upTo-none}
 use Rattle.sheet.specs.Record.{byte, bodyAt}
 use Rattle.sheet.specs.Model.{Guard, Model, moveOf}
 use Rattle.sheet.specs.Kept.Indexed.{Listed}
 use Rattle.sheet.proofs.Indexed.{listed-present, listed-move}
+use Rattle.sheet.proofs.NeedLoop.{NeedsUpto, needs-none, needs-next, need-fails, needs-end}
 use Rattle.command.specs.State.{modeOf, tagOf}
 use Rattle.command.specs.Apply.{acts, actingMove}
 use Rattle.command.proofs.Acts.{acts-answers}
@@ -27,46 +27,34 @@ use Rattle.command.proofs.Acts.{acts-answers}
 abbrev pub holds : List ℕ → Guard → Bool
 holds state g = bit (g .mask) (modeOf state (g .machine))
 
--- `ready`: each need before the place at holds
+-- `ready`: need by need
 
-pub record Holding (state body : List ℕ) (at : ℕ) : Type 0 where
-  pub passed : ℕ
-  pub place : at ≡ 4 + 2 * passed
-  pub within : passed ≤ (length body - 4) / 2
-  pub each : all (λ n. bit (byte body (5 + 2 * n)) (modeOf state (byte body (4 + 2 * n)))) (upTo passed) ≡ true
+pub record Holding (state : List ℕ) (gs : List Guard) : Type 0 where
+  pub each : all (holds state) gs ≡ true
 
 module _ {state body : List ℕ} where
-  pub holding-none : Holding state body 4
-  unfolding upTo all
-  holding-none = record { passed = 0; place = refl; within = zero-le; each = refl }
+  pub holding-none : NeedsUpto (Holding state) body 4
+  unfolding all
+  holding-none = needs-none (record { each = refl })
 
-  module _ {at mode : ℕ} {b : Bool} (h : Holding state body at) (l : at + 1 < length body)
+  module _ {at mode : ℕ} {b : Bool} (u : NeedsUpto (Holding state) body at) (h : at + 1 < length body)
       (e : mode ≡ modeOf state (byte body at)) (r : b ≡ bit (byte body (at + 1)) mode) where
-    here : b ≡ bit (byte body (5 + 2 * h .passed)) (modeOf state (byte body (4 + 2 * h .passed)))
-    here = let p : at + 1 ≡ 5 + 2 * h .passed = omega (arith, h .place) in rw (← p, ← h .place, ← e) r
+    here : b ≡ bit (byte body (at + 1)) (modeOf state (byte body at))
+    here = rw (← e) r
 
-    pub holding-next : not b ≡ false → Holding state body (at + 2)
-    unfolding upTo all
+    pub holding-next : not b ≡ false → NeedsUpto (Holding state) body (at + 2)
+    unfolding all
     holding-next t =
-        record {
-          passed = suc (h .passed);
-          place = omega (arith, h .place);
-          within = omega (arith, h .place);
-          each = rw (all-append, and-true) (and-intro (h .each) (sym here ∙ not-false b t));
-        }
+        needs-next u h (λ gs p. record {
+          each = rw (all-append, and-true) (and-intro (p .each) (sym here ∙ not-false b t));
+        })
 
     pub holding-fails : not b ≡ true → false ≡ all (holds state) (moveOf body .guards)
-    unfolding moveOf
-    holding-fails f =
-        let i : h .passed < (length body - 4) / 2 = omega (arith, h .place) in
-        sym (all-map _ _ _ ∙ false-of-not-true (λ t. true-false (all-at _ t (upTo-mem i)) (sym here ∙ not-true b f)))
+    holding-fails f = need-fails u h (holds state) (sym here ∙ not-true b f)
 
-  pub holding-end : {at : ℕ} → Holding state body at → length body ≤ at + 1
+  pub holding-end : {at : ℕ} → NeedsUpto (Holding state) body at → length body ≤ at + 1
       → true ≡ all (holds state) (moveOf body .guards)
-  unfolding moveOf
-  holding-end h l =
-      let e : h .passed ≡ (length body - 4) / 2 = omega (arith, h .place, h .within) in
-      sym (rw (all-map, ← e) (h .each))
+  holding-end u last = sym (needs-end u last .each)
 
 -- `answers`: test by test
 
@@ -118,10 +106,10 @@ unanswered-tagged m state machine command e n =
 pub unanswered-none : (m : Model) (state : List ℕ) (machine command : ℕ) → Unanswered m state machine command 0
 unanswered-none m state machine command = record { none = below-none (λ j. acts m state machine command j ≡ false) }
 
-module _ {file bodies state : List ℕ} {machine command : ℕ} {m : Model} (l : Listed m file bodies) where
+module _ {file places state : List ℕ} {machine command : ℕ} {m : Model} (l : Listed m file places) where
   module _ {mode v : ℕ} {body : List ℕ} {r : Bool} (free : tagOf state machine ≡ 0) (e : mode ≡ modeOf state machine)
-      (u : Unanswered m state machine command v) (h : v < length bodies)
-      (b : body ≡ bodyAt file (getD bodies v 0 - 4)) (a : r ≡ answering state body machine mode command) where
+      (u : Unanswered m state machine command v) (h : v < length places)
+      (b : body ≡ bodyAt file (getD places v 0)) (a : r ≡ answering state body machine mode command) where
     acts-here : acts m state machine command v ≡ r
     unfolding acts
     acts-here = sym (rw (listed-move l h b, e) at a ∙ rw free (sym (and-true _)))
@@ -135,7 +123,7 @@ module _ {file bodies state : List ℕ} {machine command : ℕ} {m : Model} (l :
     answered-here t =
         sym (find-upTo-is (acts m state machine command) 255 v (listed-present l h) (acts-here ∙ t) (u .none))
 
-  pub unanswered-end : {v : ℕ} → Unanswered m state machine command v → length bodies ≤ v
+  pub unanswered-end : {v : ℕ} → Unanswered m state machine command v → length places ≤ v
       → 255 ≡ actingMove m state machine command
   unfolding actingMove
   unanswered-end u h =

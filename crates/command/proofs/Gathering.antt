@@ -1,6 +1,6 @@
 -- The loop that lays four lists into the array of a question's facts, side by side. Assumes nothing.
 use Prim.Native.Nat.{ℕ, _+_, _≤_, _<_}
-use mathlib.Core.Path.{_≡_, refl, sym, _∙_}
+use mathlib.Core.Path.{_≡_, refl, sym, ap, _∙_}
 use mathlib.Core.List.{List}
 use native.Mathlib.Omega.{arith}
 use borrow.Author.Count.{below-none, below-more}
@@ -108,3 +108,7 @@ module _ (numbers weights sizes present : List ℕ) where
     λ k b. g .third .each k (omega arith),
     λ k b. g .fourth .each k (omega arith),
   )
+
+-- a byte of the facts, read at a number that was widened
+pub read-at : (facts : List ℕ) (at k : ℕ) {w r : ℕ} → w ≡ k → r ≡ getD facts (at + w) 0 → r ≡ getD facts (at + k) 0
+read-at facts at k e f = f ∙ ap (λ i. getD facts (at + i) 0) e

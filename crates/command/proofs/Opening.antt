@@ -1,15 +1,15 @@
 -- What is kept of a sheet and of a plan in shape for it, for a state that passes 13, as a question is asked by it: the
--- numbers of the groups, sizes and weights, which are exact, the groups that each names, and the bodies of the moves.
+-- numbers of the groups, sizes and weights, which are exact, the groups that each names, and the places of the moves.
 -- Assumes nothing.
 use Prim.Native.Nat.{ℕ, _≤_, _<_}
 use mathlib.Core.Path.{_≡_, refl, sym, ap, _∙_}
-use mathlib.Core.List.{List, [], _∷_, map}
+use mathlib.Core.List.{List, map}
 use mathlib.Core.Bool.{true}
 use native.Mathlib.Omega.{arith}
-use borrow.Author.Tests.{ltb-true, ltb-false, not-false}
+use borrow.Author.Tests.{ltb-true, ltb-false}
 use lib.Dec.{ltb}
 use lib.ListN.{length, getD, take, List·getD-eq-default}
-use lib.Seq.{take-at, getD-take, length-take-le}
+use lib.Seq.{take-at, length-take-le}
 use Rattle.common.specs.Lists.{upTo, pad}
 use Rattle.common.specs.Reply.{clear}
 use Rattle.common.proofs.Bools.{by-cases}
@@ -17,12 +17,11 @@ use Rattle.common.proofs.Members.{length-map-upTo, getD-map-upTo}
 use Rattle.common.proofs.Pad.{getD-pad, length-pad}
 use Rattle.sheet.specs.declared.index.Sheet.{Sheet}
 use Rattle.sheet.specs.Record.{part}
-use Rattle.sheet.specs.Model.{Model, machineCount, moveCount}
+use Rattle.sheet.specs.Model.{Model, machineCount}
 use Rattle.sheet.specs.Index.{indexOf}
 use Rattle.sheet.specs.Valid.{Valid}
-use Rattle.sheet.proofs.Parsed.{parse-valid, parse-bodies}
-use Rattle.sheet.proofs.Indexed.{indexes-valid, indexes-machines, indexes-moves, indexes-modes, indexes-array}
-use Rattle.sheet.proofs.Indexed.{indexes-body}
+use Rattle.sheet.proofs.Indexed.{indexes-valid, indexes-machines, indexes-modes, indexes-array}
+use Rattle.sheet.proofs.Indexed.{indexes-listed}
 use Rattle.plan.specs.declared.partition.Groups.{Groups}
 use Rattle.plan.specs.Bytes.{tableAt}
 use Rattle.plan.specs.Groups.{Grouping, groupOf, groupCount}
@@ -32,7 +31,7 @@ use Rattle.plan.specs.Kept.Partition.{cappedWeights, MemberSets, Partitioned}
 use Rattle.plan.specs.Kept.ModeSets.{Weighed, Sized, ZeroSets, ModesHeld}
 use Rattle.plan.specs.Kept.Showing.{Lives, LivesFrom}
 use Rattle.plan.specs.Promised.{SmallGroups}
-use Rattle.plan.specs.Reading.{groupsIn, wellShaped, everyMove}
+use Rattle.plan.specs.Reading.{groupsIn, everyMove}
 use Rattle.plan.proofs.CappedSizes.{capped-small}
 use Rattle.plan.proofs.Counted.{counted-all}
 use Rattle.plan.proofs.DigitSets.{weight-small}
@@ -43,7 +42,7 @@ use Rattle.plan.proofs.ShapeTests.{shape-tests}
 use Rattle.plan.proofs.TableStarts.{starts-are}
 use Rattle.command.specs.State.{modes, stateFaults}
 use Rattle.command.specs.Goal.{Masks}
-use Rattle.command.specs.Kept.Question.{Allows, Opened, Listed, Placed, Kept, NamedBy, UnmetSet, KeptGoal}
+use Rattle.command.specs.Kept.Question.{Allows, Opened, Placed, Kept, NamedBy, UnmetSet, KeptGoal}
 use Rattle.command.specs.Kept.Question.{numbersIn, weightsIn, sizeIn, presentIn}
 use Rattle.command.proofs.Shape.{groups-length, few-groups}
 
@@ -100,12 +99,15 @@ module _ {m : Model} {file plan : List ℕ} {x : Sheet} {g : Groups} {starts : L
   pub opened-count : g .count ≤ 32
   opened-count = omega (arith, parts .count, few)
 
-  pub opened-within : x .machines ≤ length (g .numbers)
-  opened-within = omega (arith, opened-few, ap length (parts .numbers), length-pad 32 own few-machines)
+  pub numbers-long : 32 ≡ length (g .numbers)
+  numbers-long = sym (ap length (parts .numbers) ∙ length-pad 32 own few-machines)
 
-  sizes-length : length (g .sizes) ≡ 32
+  pub opened-within : x .machines ≤ length (g .numbers)
+  opened-within = omega (arith, opened-few, numbers-long)
+
+  pub sizes-long : 32 ≡ length (g .sizes)
   unfolding cappedSizes
-  sizes-length = ap length (parts .sizes) ∙ length-map-upTo (λ k. capped (size m own k)) 32
+  sizes-long = sym (ap length (parts .sizes) ∙ length-map-upTo (λ k. capped (size m own k)) 32)
 
   size-is : (k : ℕ) → k < count → getD (g .sizes) k 0 ≡ size m own k
   size-is k h = ap (λ l. getD l k 0) (parts .sizes) ∙ size-kept m own few small k h
@@ -126,18 +128,18 @@ module _ {m : Model} {file plan : List ℕ} {x : Sheet} {g : Groups} {starts : L
   exact : Weighed m own (map weigh (upTo (length own)))
   exact = weighed-by (omega (arith, length-map-upTo weigh (length own))) (λ i h. getD-map-upTo weigh 0 h)
 
-  weights-length : length (g .weights) ≡ 32
+  pub weights-long : 32 ≡ length (g .weights)
   unfolding cappedWeights
-  weights-length =
-      ap length (parts .weights)
+  weights-long =
+      sym (ap length (parts .weights)
       ∙ length-pad 32 (map (λ i. capped (weigh i)) (upTo (length own)))
-      (omega (arith, few-machines, length-map-upTo (λ i. capped (weigh i)) (length own)))
+      (omega (arith, few-machines, length-map-upTo (λ i. capped (weigh i)) (length own))))
 
   weighed : Weighed m own (g .weights)
   unfolding cappedWeights
   weighed =
       weighed-by
-      (omega (arith, weights-length, few-machines))
+      (omega (arith, weights-long, few-machines))
       (λ i h.
       ap (λ l. getD l i 0) (parts .weights)
       ∙ getD-pad 32 (map (λ j. capped (weigh j)) (upTo (length own))) i
@@ -147,7 +149,7 @@ module _ {m : Model} {file plan : List ℕ} {x : Sheet} {g : Groups} {starts : L
   sized : Sized m own (g .sizes) (x .modes)
   sized =
       record {
-        placed = λ i h. omega (arith, sizes-length, few, group-below-count own i h);
+        placed = λ i h. omega (arith, sizes-long, few, group-below-count own i h);
         sized = λ i h. size-is (groupOf own i) (group-below-count own i h);
         counted = record {
           long = omega (arith, few-machines, indexes-array (o .indexes));
@@ -164,8 +166,11 @@ module _ {m : Model} {file plan : List ℕ} {x : Sheet} {g : Groups} {starts : L
   unfolding pad
   opened-numbers = ap (take (x .machines)) (parts .numbers) ∙ take-at own _ _ (long ∙ sym opened-machines)
 
-  pub opened-lent : length (take (x .machines) (g .numbers)) ≡ x .machines
-  opened-lent = length-take-le _ _ opened-within
+  pub opened-lent : x .machines ≡ length (take (x .machines) (g .numbers))
+  opened-lent = sym (length-take-le _ _ opened-within)
+
+  pub opened-lent-few : length (take (x .machines) (g .numbers)) ≤ 32
+  opened-lent-few = omega (arith, opened-lent, opened-few)
 
   pub opened-below : (i : ℕ) → i < length (take (x .machines) (g .numbers))
       → getD (take (x .machines) (g .numbers)) i 0 < 32
@@ -187,35 +192,14 @@ module _ {m : Model} {file plan : List ℕ} {x : Sheet} {g : Groups} {starts : L
   live-length : length (pad 32 (m .live)) ≡ 32
   live-length = length-pad 32 (m .live) (omega (arith, opened-valid .same-length, opened-valid .few-machines))
 
+  pub modes-long : 32 ≡ length (x .modes)
+  modes-long = sym (indexes-array (o .indexes))
+
+  pub live-long : 32 ≡ length (x .live)
+  live-long = sym (ap length opened-live ∙ live-length)
+
   opened-named : NamedBy m plan everyMove (g .named)
   opened-named = record { bits = λ k a h. rw counted-all (parts .named k a h) }
-
-  bodies-length : length (x .bodies) ≡ 250
-  unfolding indexOf
-  bodies-length =
-      let i = o .indexes in
-      ap (λ y. length (y .bodies)) (i .index)
-      ∙ length-pad 250 (i .parsed .bodies)
-      (omega (arith, parse-bodies file (i .passes), parse-valid file (i .passes) .few-moves))
-
-  pub opened-moves : x .moves ≤ length (x .bodies)
-  opened-moves = omega (arith, bodies-length, indexes-moves (o .indexes), opened-valid .few-moves)
-
-  pub opened-bodies : length (take (x .moves) (x .bodies)) ≡ x .moves
-  opened-bodies = length-take-le _ _ opened-moves
-
-  opened-listed : Listed m file (take (x .moves) (x .bodies))
-  opened-listed =
-      record {
-        one-each = opened-bodies ∙ indexes-moves (o .indexes);
-        behind = λ v h. rw (same v h) (indexes-body (o .indexes) v h .behind);
-        long = λ v h. rw (same v h) (indexes-body (o .indexes) v h .long);
-        each = λ v h. rw (same v h) (indexes-body (o .indexes) v h .read);
-      }
-    where
-      same : (v : ℕ) → v < moveCount m
-          → getD (take (x .moves) (x .bodies)) v 0 ≡ getD (x .bodies) v 0
-      same v h = getD-take (x .moves) _ v 0 (omega (arith, indexes-moves (o .indexes)))
 
   pub opened-members : {machines : List ℕ} → MemberSets (take (x .machines) (g .numbers)) machines
       → MemberSets (groupsIn m plan) machines
@@ -232,7 +216,7 @@ module _ {m : Model} {file plan : List ℕ} {x : Sheet} {g : Groups} {starts : L
       record {
         modes = record { weighed = weighed; at-zero = rw opened-numbers at (at-zero m opened-weighed opened-sized) };
         lit-modes = record {
-          long = omega (arith, few-machines, ap length opened-live, live-length);
+          long = omega (arith, few-machines, live-long);
           each = λ i h. ap (λ l. getD l i 0) opened-live ∙ getD-pad 32 (m .live) i;
         };
         members = sets;
@@ -286,15 +270,18 @@ module _ {m : Model} {file plan : List ℕ} {x : Sheet} {g : Groups} {starts : L
       pub opened-goal : {goal : Masks} {masks : List ℕ} {left : ℕ} → Allows m goal masks
           → ((m : Model) (plan : List ℕ) (goal : Masks) → Placed m plan state (take (x .machines) (g .numbers))
           → Allows m goal masks → UnmetSet m plan state goal left)
-          → KeptGoal m file plan state goal (take (x .moves) (x .bodies)) starts facts held
+          → KeptGoal m file plan state goal (take (x .moves) (x .places)) starts facts held
           (g .named) machines (x .live) masks left
       opened-goal {goal} allows unmet =
           record {
             kept = opened-kept;
-            listed = opened-listed;
+            listed = indexes-listed (o .indexes);
             naming = opened-named;
             members = opened-members sets;
             lives = opened-live;
             allows = allows;
             leaves = unmet m plan goal opened-placed allows;
           }
+
+-- the lengths of the arrays that are lent
+pub ruleset lengths = (numbers-long, weights-long, sizes-long, modes-long, live-long)

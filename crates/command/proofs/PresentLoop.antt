@@ -9,6 +9,8 @@ use native.Mathlib.Nat.{eq-or-lt-of-le, le-of-suc-le-suc, zero-mul}
 use native.Mathlib.Numerals.{add-one}
 use native.Mathlib.Omega.{arith}
 use borrow.Author.Tests.{eqb-true, eqb-false, ne-eqb}
+use mir.Val.{Fits}
+use mir.Syntax.{w8}
 use lib.Arith.{le-zero}
 use lib.Dec.{eqb}
 use lib.ListN.{length, getD, set, replicate, length-set}
@@ -41,8 +43,10 @@ number-rises c d i (suc n) h =
 abbrev pub Places : List ℕ → Type 0
 Places numbers = (i : ℕ) → i < length numbers → getD numbers i 0 < 32
 
-pub number-place : (numbers : List ℕ) {i k : ℕ} → Places numbers → i < length numbers → k ≡ getD numbers i 0 → k < 32
-number-place numbers {i} places l e = rw e (places i l)
+-- the number of machine i, as it was read, is such a place
+pub number-place : (numbers : List ℕ) {i a g k : ℕ} → Places numbers → a ≡ i → a < length numbers
+    → g ≡ groupOf numbers i → k ≡ g → k < 32
+number-place numbers {i} places o l e f = rw (f, e) (places i (omega arith))
 
 module _ (state numbers weights : List ℕ) where
   -- what the first i machines add to the mode of group k
@@ -76,14 +80,12 @@ module _ (state numbers weights : List ℕ) where
 
     module _ (passes : clear (stateFaults m state) ≡ true) where
       -- what a machine adds, and the mode so far with it
-      pub mode-byte : {x : ℕ} → x ≡ modeOf state i → x * getD weights i 0 < 64
-      mode-byte e = rw e (mode-fits w l (sound-state m state passes .fits i (omega (arith, w .all-machines))))
+      mode-small : modeOf state i * getD weights i 0 < 64
+      mode-small = mode-fits w l (sound-state m state passes .fits i (omega (arith, w .all-machines)))
 
-      pub sum-byte : {k x : ℕ} {r : List ℕ} → PresentUpto i r → Places numbers → k ≡ getD numbers i 0 → x ≡ modeOf state i
-          → getD r k 0 + x * getD weights i 0 < 64
-      sum-byte {k} u places e f =
-          rw (f, u .at m w k (number-place numbers places l e), e)
-          (omega (
+      sum-small : added m (groupOf numbers i) i + modeOf state i * getD weights i 0 < 64
+      sum-small =
+          omega (
             arith,
             added-own,
             number-rises (counts m numbers (groupOf numbers i)) (digits m numbers (groupOf numbers i) (modes state)) (suc i)
@@ -92,27 +94,44 @@ module _ (state numbers weights : List ℕ) where
             modeNumber-below m (w .valid) numbers (w .all-machines) (groupOf numbers i) (modes state)
                 (sound-state m state passes .fits),
             group-small w (groupOf numbers i),
-          ))
+          )
 
-  pub present-next : {i k x : ℕ} {r : List ℕ} → PresentUpto i r → Places numbers → i < length numbers
-      → k ≡ getD numbers i 0 → x ≡ modeOf state i → PresentUpto (i + 1) (set r k (getD r k 0 + x * getD weights i 0))
-  present-next {i} {k} {x} {r} u places l e f =
-      let h = number-place numbers places l e in
-      record {
-        inside = omega arith;
-        whole = length-set r k _ ∙ u .whole;
-        at = λ m w a b.
-            by-cases (eqb a k)
-            (λ t.
-            rw (eqb-true a k t, getD-set-same r k _ 0 (omega (arith, u .whole)), add-one, u .at m w k h, f, e)
-            (sym (added-own w l)))
-            (λ d.
-            let n = eqb-false a k d in
-            rw (getD-set-other r k a _ 0 n, add-one, added-other w l a (λ q. n (sym q ∙ sym e))) (u .at m w a b));
-      }
+  -- the turn of machine i, as its number, its mode and its place were read
+  module _ {i a b x : ℕ} (o : a ≡ i) (l : a < length numbers) (f : x ≡ modeOf state i) (d : b ≡ i) where
+    there : i < length numbers
+    there = omega arith
 
-  pub present-end : {i : ℕ} {r : List ℕ} → PresentUpto i r → length numbers ≤ i → (m : Model) → Weighed m numbers weights
-      → (k : ℕ) → k < 32 → getD r k 0 ≡ modeNumber m numbers k (modes state)
-  present-end {i} u l m w k h =
+    pub mode-byte : {m : Model} → Weighed m numbers weights → clear (stateFaults m state) ≡ true
+        → Fits w8 (x * getD weights b 0)
+    mode-byte w passes = rw (f, d) (omega (arith, mode-small w there passes))
+
+    module _ {g k : ℕ} {r : List ℕ} (u : PresentUpto i r) (places : Places numbers) (e : g ≡ groupOf numbers i)
+        (h : k ≡ g) where
+      pub sum-byte : {m : Model} → Weighed m numbers weights → clear (stateFaults m state) ≡ true
+          → Fits w8 (getD r k 0 + x * getD weights b 0)
+      sum-byte {m} w passes =
+          rw (f, d, u .at m w k (number-place numbers places o l e h), h, e)
+          (omega (arith, sum-small w there passes))
+
+      pub present-next : PresentUpto (i + 1) (set r k (getD r k 0 + x * getD weights b 0))
+      present-next =
+          let below = number-place numbers places o l e h in
+          record {
+            inside = omega arith;
+            whole = length-set r k _ ∙ u .whole;
+            at = λ m w j c.
+                by-cases (eqb j k)
+                (λ t.
+                rw (eqb-true j k t, getD-set-same r k _ 0 (omega (arith, u .whole)), add-one, u .at m w k below, f, d, h, e)
+                (sym (added-own w there)))
+                (λ n.
+                let other = eqb-false j k n in
+                rw (getD-set-other r k j _ 0 other, add-one, added-other w there j (λ q. other (sym q ∙ sym (h ∙ e))))
+                (u .at m w j c));
+          }
+
+  pub present-end : {i a : ℕ} {r : List ℕ} → PresentUpto i r → a ≡ i → length numbers ≤ a → (m : Model)
+      → Weighed m numbers weights → (k : ℕ) → k < 32 → getD r k 0 ≡ modeNumber m numbers k (modes state)
+  present-end {i} u o l m w k h =
       let e : i ≡ length numbers = omega (arith, u .inside) in
       u .at m w k h ∙ rw e (sym (modeNumber-number m numbers k (modes state)))

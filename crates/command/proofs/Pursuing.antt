@@ -5,8 +5,7 @@ use mathlib.Core.Path.{_≡_, sym, _∙_}
 use mathlib.Core.Logic.{⊎-elim}
 use mathlib.Core.List.{List}
 use mathlib.Core.Bool.{Bool, true}
-use native.Mathlib.Omega.{arith}
-use lib.ListN.{length, getD}
+use lib.ListN.{length}
 use Rattle.common.specs.Bits.{bit}
 use Rattle.common.specs.Lists.{pad}
 use Rattle.common.specs.Reply.{Reply, given, unless}
@@ -32,68 +31,41 @@ use Rattle.command.proofs.LeftUnmet.{left-only, highest-left}
 use Rattle.command.proofs.Placing.{placed-known, kept-placed}
 use Rattle.command.proofs.Verdicts.{accepted-unless}
 
-module _ {m : Model} {file plan state : List ℕ} {goal : Masks} {bodies starts facts zeros named machines live masks : List ℕ}
-    {left : ℕ} (q : KeptGoal m file plan state goal bodies starts facts zeros named machines live masks left) where
+-- The groups that a question looks at, as the code finds them: those upstream of the unmet ones, both together, and what the
+-- goal allows of each
+pub record Sought (facts zeros named machines masks wanted : List ℕ) (left above among : ℕ) : Type 0 where
+  pub fits : left < 2 ^ 64
+  pub up : (m : Model) (plan : List ℕ) (counts : ℕ → Bool) → Valid m → wellShaped m plan ≡ true → NamedBy m plan counts named
+      → UpstreamOfSome m plan counts left above
+  pub joined : among ≡ union above left
+  pub allowed : (m : Model) (plan state starts : List ℕ) (goal : Masks) → Kept m plan state facts zeros starts
+      → Allows m goal masks → GroupsOnly m plan among → MemberSets (groupsIn m plan) machines
+      → AllowedSets m plan goal among wanted
+
+module _ {m : Model} {file plan state : List ℕ} {goal : Masks} {places starts facts zeros named machines live masks : List ℕ}
+    {left : ℕ} (q : KeptGoal m file plan state goal places starts facts zeros named machines live masks left) where
   -- what `numbers` asks
   pub pursued-few : (length facts ≡ 128) × (machinesIn state ≤ 32)
   pursued-few = (q .kept .long, placed-known (q .kept .placed))
 
   -- by the numbers of the groups
-  module _ {own : List ℕ} (e : own ≡ numbersIn facts (machinesIn state)) where
-    pub pursued-placed : Placed m plan state own
-    pursued-placed = kept-placed (q .kept) e
+  pub pursued-placed : {own : List ℕ} → own ≡ numbersIn facts (machinesIn state) → Placed m plan state own
+  pursued-placed e = kept-placed (q .kept) e
 
   module _ (fits : left < 2 ^ 64) where
     pub pursued-only : GroupsOnly m plan left
     pursued-only = left-only (q .kept .placed) (q .leaves) fits
 
-    -- the groups upstream of the unmet ones, and both together
     module _ {above : ℕ} (up : (m : Model) (plan : List ℕ) (counts : ℕ → Bool) → Valid m → wellShaped m plan ≡ true
         → NamedBy m plan counts named
         → UpstreamOfSome m plan counts left above) where
       pursued-upper : UpstreamOfSome m plan everyMove left above
       pursued-upper = up m plan everyMove (q .kept .placed .valid) (q .kept .placed .shaped) (q .naming)
 
-      module _ {among : ℕ} (j : among ≡ union above left) where
-        pub pursued-among : GroupsOnly m plan among
-        pursued-among k t =
-            ⊎-elim (above-only pursued-only pursued-upper k) (pursued-only k)
-            (or-cases (bit above k) (bit left k) (sym (bit-union above left k) ∙ rw j at t))
-
-        -- what `allowed_sets` tells
-        module _ {wanted : List ℕ}
-            (f : (m : Model) (plan state starts : List ℕ) (goal : Masks) → Kept m plan state facts zeros starts
-            → Allows m goal masks → GroupsOnly m plan among → MemberSets (groupsIn m plan) machines
-            → AllowedSets m plan goal among wanted) where
-          both : AllowedSets m plan goal among wanted
-          both = f m plan state starts goal (q .kept) (q .allows) pursued-among (q .members)
-
-          pub pursued-left : AllowedSets m plan goal left wanted
-          pursued-left =
-              record { each = λ k t. both .each k (rw (j, bit-union) (or-right (bit above k) t)) }
-
-          pursued-above : AllowedSets m plan goal above wanted
-          pursued-above =
-              record { each = λ k t. both .each k (rw (j, bit-union) (or-left (bit left k) t)) }
-
-          -- what `cover` asks, by the numbers of the groups and those that are not live
-          pub pursued-uncertain : {own : List ℕ} {failed : ℕ} → own ≡ numbersIn facts (machinesIn state)
-              → ((m : Model) (plan : List ℕ) → Placed m plan state own → live ≡ pad 32 (m .live) → FailedSet m plan state failed)
-              → Uncertain m file plan state goal bodies starts facts zeros own wanted left failed above
-          pursued-uncertain e g =
-              record {
-                leaves = record {
-                  kept = q .kept;
-                  numbered = pursued-placed e .numbered;
-                  unmet-groups = q .leaves;
-                  only = pursued-only;
-                  allows = pursued-left;
-                };
-                listed = q .listed;
-                not-live = g m plan (pursued-placed e) (q .lives);
-                upper = pursued-upper;
-                allows-above = pursued-above;
-              }
+      pub pursued-among : {among : ℕ} → among ≡ union above left → GroupsOnly m plan among
+      pursued-among j k t =
+          ⊎-elim (above-only pursued-only pursued-upper k) (pursued-only k)
+          (or-cases (bit above k) (bit left k) (sym (bit-union above left k) ∙ rw j at t))
 
     -- 16 to 18 pass, and the highest is followed
     pub pursued-replies : (k : ℕ) {v : Verdict} {r : Reply Next}
@@ -102,3 +74,33 @@ module _ {m : Model} {file plan state : List ℕ} {goal : Masks} {bodies starts 
         → r ≡ unless (coverFaults m plan state goal) (fulfil m plan state goal (groupCount (groupsIn m plan)))
     pursued-replies k e a top s =
         s ∙ sym (accepted-unless _ e _ a ∙ highest-left (q .kept .placed) (q .leaves) k fits top)
+
+  module _ {wanted : List ℕ} {above among : ℕ} (s : Sought facts zeros named machines masks wanted left above among) where
+    both : AllowedSets m plan goal among wanted
+    both =
+        s .allowed m plan state starts goal (q .kept) (q .allows) (pursued-among (s .fits) (s .up) (s .joined)) (q .members)
+
+    pub pursued-left : AllowedSets m plan goal left wanted
+    pursued-left = record { each = λ k t. both .each k (rw (s .joined, bit-union) (or-right (bit above k) t)) }
+
+    pursued-above : AllowedSets m plan goal above wanted
+    pursued-above = record { each = λ k t. both .each k (rw (s .joined, bit-union) (or-left (bit left k) t)) }
+
+    -- what `cover` asks, by the numbers of the groups and those that are not live
+    pub pursued-uncertain : {own : List ℕ} {failed : ℕ} → own ≡ numbersIn facts (machinesIn state)
+        → ((m : Model) (plan : List ℕ) → Placed m plan state own → live ≡ pad 32 (m .live) → FailedSet m plan state failed)
+        → Uncertain m file plan state goal places starts facts zeros own wanted left failed above
+    pursued-uncertain e g =
+        record {
+          leaves = record {
+            kept = q .kept;
+            numbered = pursued-placed e .numbered;
+            unmet-groups = q .leaves;
+            only = pursued-only (s .fits);
+            allows = pursued-left;
+          };
+          listed = q .listed;
+          not-live = g m plan (pursued-placed e) (q .lives);
+          upper = pursued-upper (s .fits) (s .up);
+          allows-above = pursued-above;
+        }

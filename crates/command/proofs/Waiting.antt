@@ -32,6 +32,7 @@ use Rattle.command.specs.Kept.Question.{Placed, Kept, Listed, AllowedSet
 use Rattle.command.specs.Kept.Question.{machinesIn, numbersIn, weightsIn, sizeIn}
 use Rattle.command.proofs.Following
 use Rattle.command.proofs.Fitness.{ready-test}
+use Rattle.command.proofs.GroupVerdict.{Top}
 use Rattle.command.proofs.Goals.{needs-allowed, needs-hold, met-holds}
 use Rattle.command.proofs.Picked.{fulfilBelow, fulfil-highest}
 use Rattle.command.proofs.Placing.{placed-sound, placed-count, placed-group, placed-number, placed-below}
@@ -143,8 +144,21 @@ module _ {m : Model} {plan state numbers : List ℕ} (p : Placed m plan state nu
                 ∙ rw (bit-first n q, needs-allowed m (p .valid) plan (p .shaped) own v member j q other);
           }
 
+-- the modes of group j that meet the needs of a move there, by the facts
+pub record Meets (state facts zeros b : List ℕ) (j wanted : ℕ) : Type 0 where
+  pub each : (m : Model) → ModesHeld m (numbersIn facts (machinesIn state)) (weightsIn facts) zeros
+      → ValidMove m (moveOf b)
+      → MeetingSet m (numbersIn facts (machinesIn state)) j (moveOf b) (below (sizeIn facts j)) wanted
+
+pub meets-by : {state facts zeros b numbers weights : List ℕ} {j n within wanted : ℕ}
+    → numbers ≡ numbersIn facts (machinesIn state) → weights ≡ weightsIn facts → n ≡ sizeIn facts j → within ≡ below n
+    → ((m : Model) → ModesHeld m numbers weights zeros → ValidMove m (moveOf b)
+    → MeetingSet m numbers j (moveOf b) within wanted)
+    → Meets state facts zeros b j wanted
+meets-by e f g h meeting = record { each = rw (← e, ← f, ← g, ← h) meeting }
+
 -- A move is prepared, as the code does it: what it waits for is given, and its needs on the highest of it are its goal
-module _ {plan state facts zeros starts : List ℕ} (b : List ℕ) {waits : ℕ} (m : Model) (v : ℕ)
+module _ {plan state facts zeros starts : List ℕ} (b : List ℕ) {waits v : ℕ} {m : Model}
     (kept : Kept m plan state facts zeros starts) (there : v < moveCount m) (same : moveOf b ≡ moveAt m v)
     (o : OnlyOutside (groupsIn m plan) state (moveAt m v) waits) where
   -- with what it needs fulfilled in the groups below its own
@@ -162,35 +176,32 @@ module _ {plan state facts zeros starts : List ℕ} (b : List ℕ) {waits : ℕ}
   pub prepare-valid : ValidMove m (moveOf b)
   prepare-valid = rw same (kept .placed .valid .moves-valid v there)
 
-  module _ {j : ℕ} (small : j < 64) (on : bit waits j ≡ true) (top : (i : ℕ) → j < i → bit waits i ≡ false) where
+  -- group j is the highest that it waits for
+  module _ {j : ℕ} (top : Top waits j) where
     pub prepare-there : j < groupCount (groupsIn m plan)
-    prepare-there = waits-there (kept .placed) there o small on top
+    prepare-there = waits-there (kept .placed) there o (top .0) (top .1) (top .2)
 
     -- it is below the move's own group
     pub prepare-lower : j < groupOf (numbersIn facts (machinesIn state)) (byte b 0)
     unfolding moveOf
     prepare-lower =
-        let low = waits-lower (kept .placed) there o small on top in
+        let low = waits-lower (kept .placed) there o (top .0) (top .1) (top .2) in
         let e : byte b 0 ≡ moveAt m v .machine = ap (λ w. w .machine) same in
         rw (e, placed-group (kept-placed kept refl)) low
 
-    module _ {numbers weights : List ℕ} {n within wanted : ℕ} (e : numbers ≡ numbersIn facts (machinesIn state))
-        (f : weights ≡ weightsIn facts) (g : n ≡ sizeIn facts j) (h : within ≡ below n)
-        (meeting : (m : Model) → ModesHeld m numbers weights zeros → ValidMove m (moveOf b)
-        → MeetingSet m numbers j (moveOf b) within wanted) where
+    module _ {wanted : ℕ} (meets : Meets state facts zeros b j wanted) where
       pub prepare-allowed : AllowedSet m plan
           (guardMasks m (groupsIn m plan) (groupOf (groupsIn m plan) (moveAt m v .machine)) (moveAt m v)) j wanted
       prepare-allowed =
-          let met = meeting m (kept-held kept e f) prepare-valid in
-          let whole : within ≡ below (size m (groupsIn m plan) j) = h ∙ ap below (g ∙ kept .sizes j prepare-there) in
-          waits-allowed (kept .placed) there o small on top
-          (rw (same, whole, kept-placed kept e .numbered) at met)
+          let met = meets .each m (kept-held kept refl refl) prepare-valid in
+          waits-allowed (kept .placed) there o (top .0) (top .1) (top .2)
+          (rw (same, kept .sizes j prepare-there, kept-placed kept refl .numbered) at met)
 
-      pub prepare-fulfils : {file bodies : List ℕ} → Listed m file bodies → {says : Reply Next}
-          → ((m : Model) (goal : Masks) → Kept m plan state facts zeros starts → Listed m file bodies
+      pub prepare-fulfils : {file places : List ℕ} → Listed m file places → {says : Reply Next}
+          → ((m : Model) (goal : Masks) → Kept m plan state facts zeros starts → Listed m file places
           → j < groupCount (groupsIn m plan) → AllowedSet m plan goal j wanted
           → says ≡ followBy m plan state (fulfilBelow m plan state j) goal j)
           → says ≡ prepared
       prepare-fulfils l fulfil =
           fulfil m _ kept l prepare-there prepare-allowed
-          ∙ sym (waits-follows (kept .placed) there o small on top)
+          ∙ sym (waits-follows (kept .placed) there o (top .0) (top .1) (top .2))

@@ -9,7 +9,7 @@ use crate::query::weights;
 use plan::sizing::Group;
 use plan::standing::meeting;
 use sheet::index::Machine;
-use sheet::record::body;
+use sheet::index::move_body;
 use sheet::record::wide;
 use sheet::refusal::Cause;
 ghost use mathlib.Core.Path.{_≡_};
@@ -37,7 +37,7 @@ pub enum Advice {
 // none, else fulfils what it needs, on the highest of them.
 pub fn prepare(
     file: &[u8],
-    bodies: &[u16],
+    places: &[u16],
     plan: &[u8],
     starts: &[u32],
     state: &[u8],
@@ -46,11 +46,11 @@ pub fn prepare(
     b: &[u8],
     waits: u64,
 ) -> Advice
-    requires { ⌜ ((m : Model) × Kept m (now plan) (now state) (now facts) (now zeros) (now starts) × Listed m (now file) (now bodies)
+    requires { ⌜ ((m : Model) × Kept m (now plan) (now state) (now facts) (now zeros) (now starts) × Listed m (now file) (now places)
         × (v : ℕ) × (v < moveCount m) × (moveOf (now b) ≡ moveAt m v)
         × OnlyOutside (groupsIn m (now plan)) (now state) (moveAt m v) waits) × (3 < length (now b)) ⌝ }
     ensures { λ r. ⌜ ((m : Model) (v : ℕ) → Kept m (now (plan .entry)) (now (state .entry)) (now (facts .entry)) (now (zeros .entry)) (now (starts .entry))
-        → Listed m (now (file .entry)) (now (bodies .entry)) → v < moveCount m → moveOf (now (b .entry)) ≡ moveAt m v
+        → Listed m (now (file .entry)) (now (places .entry)) → v < moveCount m → moveOf (now (b .entry)) ≡ moveAt m v
         → OnlyOutside (groupsIn m (now (plan .entry))) (now (state .entry)) (moveAt m v) waits
         → adviceSays r ≡ prepareBy m (now (plan .entry)) (now (state .entry))
         (λ needs. fulfil m (now (plan .entry)) (now (state .entry)) needs
@@ -72,7 +72,7 @@ pub fn prepare(
     );
     fulfil(
         file,
-        bodies,
+        places,
         plan,
         starts,
         state,
@@ -86,7 +86,7 @@ pub fn prepare(
 // Fulfils a goal on its highest unmet group, by the modes of it that are allowed: follows its entry toward the nearest.
 pub fn fulfil(
     file: &[u8],
-    bodies: &[u16],
+    places: &[u16],
     plan: &[u8],
     starts: &[u32],
     state: &[u8],
@@ -95,22 +95,21 @@ pub fn fulfil(
     group: Group,
     allowed: u64,
 ) -> Advice
-    requires { ⌜ ((m : Model) × (goal : Masks) × Kept m (now plan) (now state) (now facts) (now zeros) (now starts) × Listed m (now file) (now bodies)
+    requires { ⌜ ((m : Model) × (goal : Masks) × Kept m (now plan) (now state) (now facts) (now zeros) (now starts) × Listed m (now file) (now places)
         × (group .0 < groupCount (groupsIn m (now plan))) × AllowedSet m (now plan) goal (group .0) allowed) ⌝ }
     ensures { λ r. ⌜ ((m : Model) (goal : Masks)
         → Kept m (now (plan .entry)) (now (state .entry)) (now (facts .entry)) (now (zeros .entry)) (now (starts .entry))
-        → Listed m (now (file .entry)) (now (bodies .entry)) → group .0 < groupCount (groupsIn m (now (plan .entry)))
+        → Listed m (now (file .entry)) (now (places .entry)) → group .0 < groupCount (groupsIn m (now (plan .entry)))
         → AllowedSet m (now (plan .entry)) goal (group .0) allowed
         → adviceSays r ≡ followBy m (now (plan .entry)) (now (state .entry))
         (λ needs. fulfil m (now (plan .entry)) (now (state .entry)) needs (group .0)) goal (group .0)) ⌝ }
 {
     let cell = toward(plan, starts, facts, group, allowed);
     let v = wide(cell.first);
-    if cell.distance == 255 || bodies.len() <= v {
+    if cell.distance == 255 || places.len() <= v {
         return Advice::Refused(Cause::BadPlan, 0);
     }
-    let start = bodies[v] as usize;
-    let b = body(file, start - 4);
+    let b = move_body(file, places, v);
     let own = numbers(facts, state);
     let held = held_up(b, state, own);
     if !from_now(b, state, own, group) || sets::has(held, wide(group.0)) {
@@ -119,5 +118,5 @@ pub fn fulfil(
     if !usable(b, plan, starts, facts, own, zeros) {
         return Advice::Refused(Cause::BadPlan, 0);
     }
-    prepare(file, bodies, plan, starts, state, facts, zeros, b, held)
+    prepare(file, places, plan, starts, state, facts, zeros, b, held)
 }

@@ -54,28 +54,33 @@ module _ (s : List ℕ) (at n most : ℕ) where
   put-none e = rw (digits-none n e) (puts-none s at)
 
   module _ (some : most ≡ 0 → ⊥) where
-    some-digit : 0 < most
-    some-digit = omega (arith, some)
-
     pub put-last : {end : ℕ} {out : List ℕ} → n < 10 → Puts s at (digit (n % 10) ∷ []) end out
         → Puts s at (digits most n) end out
-    put-last h r = rw (digits-last n most some-digit h) r
+    put-last h r = rw (digits-last n most (omega arith) h) r
 
-    pub put-more : {mid end : ℕ} {front out : List ℕ} → 10 ≤ n → at ≤ length s
+    pub put-more : {mid end : ℕ} {front out : List ℕ} → 10 ≤ n → at + length (digits most n) ≤ length s
         → Puts s at (digits (most - 1) (n / 10)) mid front → Puts front mid (digit (n % 10) ∷ []) end out
         → Puts s at (digits most n) end out
-    put-more h room first last = rw (digits-more n most some-digit h) (puts-then s at _ _ room first last)
+    put-more h room first last =
+        rw (digits-more n most (omega arith) h) (puts-then s at _ _ (omega arith) first last)
 
-    pub room-last : {size : ℕ} → n < 10 → at + length (digits most n) ≤ size → at < size
-    room-last h room = omega (arith, ap length (digits-last n most some-digit h))
+-- there is room for the digits before the last, and then for the last
+module _ (at n most : ℕ) (some : most ≡ 0 → ⊥) {size : ℕ} (room : at + length (digits most n) ≤ size) where
+  pub room-last : n < 10 → at < size
+  room-last h = omega (arith, ap length (digits-last n most (omega arith) h))
 
-    -- there is room for the digits before the last, and then for the last
-    pub room-more : {size : ℕ} → 10 ≤ n → at + length (digits most n) ≤ size
-        → at + length (digits (most - 1) (n / 10)) < size
-    room-more h room =
-        let more = digits (most - 1) (n / 10) in
-        let e = digits-more n most some-digit h in
-        omega (arith, length-append more (digit (n % 10) ∷ []), ap length e)
+  module _ (h : 10 ≤ n) where
+    abbrev more : List ℕ
+    more = digits (most - 1) (n / 10)
+
+    both-long : length (digits most n) ≡ length more + 1
+    both-long = ap length (digits-more n most (omega arith) h) ∙ length-append more (digit (n % 10) ∷ [])
+
+    pub room-more : at + length more ≤ size
+    room-more = omega (arith, both-long)
+
+    pub room-then : {end after : ℕ} → end ≡ at + length more → after ≡ size → end < after
+    room-then e same = omega (arith, both-long)
 
 -- Numbers of one digit and of two
 
@@ -89,3 +94,24 @@ module _ (n : ℕ) where
   two-digits-are h l =
       digits-more n 5 (omega arith) h
       ∙ ap (λ front. front ++ (digit (n % 10) ∷ [])) (digits-last (n / 10) 4 (omega arith) (omega arith))
+
+module _ (s : List ℕ) (at n : ℕ) where
+  pub put-one : {end : ℕ} {out : List ℕ} → n < 10 → Puts s at (digit (n % 10) ∷ []) end out
+      → Puts s at (decimal n) end out
+  put-one h r = rw (one-digit n h) r
+
+  pub put-two : {mid end : ℕ} {front out : List ℕ} → 10 ≤ n → n < 100 → at + length (decimal n) ≤ length s
+      → Puts s at (digit (n / 10 % 10) ∷ []) mid front → Puts front mid (digit (n % 10) ∷ []) end out
+      → Puts s at (decimal n) end out
+  put-two h l room first last = rw (two-digits-are n h l) (puts-then s at _ _ (omega arith) first last)
+
+module _ (at n : ℕ) {size : ℕ} (room : at + length (decimal n) ≤ size) where
+  pub room-one : n < 10 → at < size
+  room-one h = omega (arith, ap length (one-digit n h))
+
+  module _ (h : 10 ≤ n) (l : n < 100) where
+    pub room-first : at < size
+    room-first = omega (arith, ap length (two-digits-are n h l))
+
+    pub room-second : {end after : ℕ} → end ≡ at + 1 → after ≡ size → end < after
+    room-second e same = omega (arith, ap length (two-digits-are n h l))

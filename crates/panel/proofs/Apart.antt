@@ -1,6 +1,6 @@
 -- The words of the C interface come apart again: refusals are near, and what a call gives is small.
 -- Assumes nothing.
-use Prim.Native.Nat.{ℕ, _/_, _%_, _≤_, _<_}
+use Prim.Native.Nat.{ℕ, _+_, _/_, _%_, _≤_, _<_}
 use mathlib.Core.Path.{_≡_, refl, sym, ap}
 use mathlib.Core.Logic.{_↔_}
 use mathlib.Core.List.{List}
@@ -11,9 +11,10 @@ use Rattle.common.specs.Reply.{Reply, given, refused, lengthOf}
 use Rattle.common.proofs.Bools.{by-cases, true-false}
 use Rattle.common.proofs.Clear.{each-clear}
 use Rattle.common.proofs.Reply.{given-not-refused, given-clear, andThen-given}
-use Rattle.sheet.specs.Record.{byte}
+use Rattle.sheet.specs.Record.{byte, bodyAt}
 use Rattle.sheet.specs.Model.{moveOf}
 use Rattle.sheet.specs.Parse.{parse}
+use Rattle.sheet.proofs.Records.{body-byte}
 use Rattle.sheet.proofs.Parsed.{parse-valid, parse-stands}
 use Rattle.sheet.proofs.Place.{Near, refusal-near}
 use Rattle.plan.proofs.SheetLength.{length-near, plan-near}
@@ -21,7 +22,6 @@ use Rattle.command.specs.Next.{Next, done, command, nextReply}
 use Rattle.command.specs.Apply.{Applied, Effect, applyReply, effectReply}
 use Rattle.command.proofs.Applying.{applies-right}
 use Rattle.command.proofs.Near.{next-near}
-use Rattle.command.proofs.Shown.{part-is-byte}
 use Rattle.command.proofs.Tags.{sent-answered}
 use Rattle.command.proofs.Turns.{length-most}
 use Rattle.joining.proofs.Near.{join-near}
@@ -62,8 +62,10 @@ module _ (sheet : List ℕ) (bytes : (i : ℕ) → byte sheet i < 256) (plan sta
       let valid = parse-valid sheet (sent .passes) in
       let stands = parse-stands sheet (sent .passes) (sent .move) there in
       let present = valid .moves-valid (sent .move) there .present in
-      let last = part-is-byte sheet (getD (sent .read .bodies) (sent .move) 0) (stands .len) 3 bytes in
-      omega (arith, valid .few-machines, sent .answers, ap (λ v. v .command) (stands .read))
+      let place : ℕ = getD (sent .read .places) (sent .move) 0 in
+      let some : 0 < length (bodyAt sheet place) = omega (arith, stands .long) in
+      let last = body-byte sheet place some 3 (stands .long) in
+      omega (arith, valid .few-machines, sent .answers, ap (λ v. v .command) (stands .read), last, bytes (place + 4 + 3))
 
   sent-word : (next : Next) → nextReply sheet plan state goal ≡ given next
       → wordOf (commandReply (given next)) < 4294967296

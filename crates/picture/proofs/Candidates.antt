@@ -3,9 +3,9 @@
 use Prim.Native.Nat.{ℕ, _+_, _≤_, _<_}
 use mathlib.Core.Path.{_≡_, refl, sym, ap, ap₂, subst, _∙_}
 use mathlib.Core.List.{List, [], _++_, flatMap, append-assoc, List·Memᴰ}
-use mathlib.Core.Bool.{Bool, true, false, _&&_}
+use mathlib.Core.Bool.{Bool, true, false, not, _&&_}
 use native.Mathlib.Omega.{arith}
-use borrow.Author.Tests.{lt-ltb, ltb-true, eq-eqb}
+use borrow.Author.Tests.{lt-ltb, ltb-true, eq-eqb, not-true, not-false}
 use lib.Dec.{eqb, ltb}
 use lib.ListN.{length, getD, drop, length-drop}
 use Rattle.common.specs.Bits.{bit}
@@ -14,6 +14,7 @@ use Rattle.common.proofs.Bools.{bool-ext, true-false, and-intro}
 use Rattle.common.proofs.Members.{upTo-below}
 use Rattle.common.proofs.Sums.{flatMap-cong}
 use Rattle.decimal.specs.Decimal.{startsWith}
+use Rattle.decimal.proofs.Standing.{starts-length}
 use Rattle.plan.specs.Groups.{groupOf, groupCount, members}
 use Rattle.plan.proofs.Groups.{highest-group}
 use Rattle.plan.proofs.Named.{group-below-count}
@@ -63,7 +64,7 @@ module _ {text : List ℕ} {p : Picture} {rel : ℕ → ℕ → Bool} (c : Candi
       (append-assoc (flatMap (λ j. nodeOf j (members (p .groups) j)) (upTo count))
       (flatMap (λ a. edgesOf a (filter (rel a) (upTo count))) (upTo count)) lastLine)
 
-  pub candidate-first : startsWith firstLine (drop 0 text) ≡ true
+  candidate-first : startsWith firstLine (drop 0 text) ≡ true
   candidate-first = starts-there firstLine _ parts
 
   groups-within : count ≤ length (p .groups)
@@ -94,7 +95,7 @@ module _ {text : List ℕ} {p : Picture} {rel : ℕ → ℕ → Bool} (c : Candi
     same-label : (j : ℕ) → j < r .count → labelled numbers (r .seen) j ≡ members (p .groups) j
     same-label = nodes .only (p .groups) tail grouped .1
 
-    pub candidate-some : r .count ≡ 0 → ⊥
+    candidate-some : r .count ≡ 0 → ⊥
     candidate-some e = omega (arith, same-count, group-below-count (p .groups) 0 (means .some))
 
     -- the machines that were seen are those of the picture
@@ -114,7 +115,7 @@ module _ {text : List ℕ} {p : Picture} {rel : ℕ → ℕ → Bool} (c : Candi
         let there = subst (λ is. List·Memᴰ i is) (sym (same-label k h)) (is-member (p .groups) k l refl) in
         labelled-seen numbers (r .seen) k there)
 
-    pub candidate-machines : {n : ℕ} → 0 < r .count → Gapless (r .seen) n → n < r .count → ⊥
+    candidate-machines : {n : ℕ} → 0 < r .count → Gapless (r .seen) n → n < r .count → ⊥
     candidate-machines some gapless l =
         let few = means .few in
         let n = gapless .only (length (p .groups)) (means .some) (omega arith) (seen-are some) in
@@ -126,27 +127,16 @@ module _ {text : List ℕ} {p : Picture} {rel : ℕ → ℕ → Bool} (c : Candi
           edges .only rel (nodes .only (p .groups) tail grouped .2
           ∙ ap (λ n. flatMap (λ a. edgesOf a (filter (rel a) (upTo n))) (upTo n) ++ lastLine) (sym same-count))
 
-      pub candidate-fits : e .fits ≡ false → ⊥
+      candidate-fits : e .fits ≡ false → ⊥
       candidate-fits f = true-false (edges-only .0) f
 
-      pub candidate-ends : startsWith lastLine (drop (e .end) text) && eqb (e .end + 2) (length text) ≡ false → ⊥
+      candidate-ends : startsWith lastLine (drop (e .end) text) && eqb (e .end + 2) (length text) ≡ false → ⊥
       candidate-ends f =
           let there = edges-only .1 in
           let size : e .end + 2 ≡ length text = omega (arith, ap length there, length-drop (e .end) text) in
           true-false (and-intro (starts-there lastLine [] there) (eq-eqb _ _ size)) f
 
--- A text that is refused, and one that is read
-
-pub text-refused : {text : List ℕ} (numbers targets : List ℕ)
-    → ((p : Picture) (rel : ℕ → ℕ → Bool) → Candidate text p rel → ⊥)
-    → TextFound text numbers targets (record { machines = 0; groups = 0 })
-text-refused numbers targets never =
-    record {
-      few-machines = omega arith;
-      few-groups = omega arith;
-      shown = λ l. absurd (let f : ⊥ = omega arith in f);
-      other = λ e. no-picture never;
-    }
+-- A text that is read, and one that is refused where reading it stops
 
 pub text-found : {text numbers targets : List ℕ} {seen n count end last : ℕ}
     → Matches text numbers targets seen n count end last
@@ -161,3 +151,53 @@ text-found m =
       shown = λ l. matches-shown m;
       other = λ e. absurd (let f : ⊥ = omega arith in f);
     }
+
+-- that a text is refused
+abbrev Refused : List ℕ → List ℕ → List ℕ → Type 0
+Refused text numbers targets = TextFound text numbers targets (record { machines = 0; groups = 0 })
+
+text-refused : {text : List ℕ} (numbers targets : List ℕ)
+    → ((p : Picture) (rel : ℕ → ℕ → Bool) → Candidate text p rel → ⊥) → Refused text numbers targets
+text-refused numbers targets never =
+    record {
+      few-machines = omega arith;
+      few-groups = omega arith;
+      shown = λ l. absurd (let f : ⊥ = omega arith in f);
+      other = λ e. no-picture never;
+    }
+
+module _ (text : List ℕ) {opens : Bool} (o : opens ≡ startsWith firstLine (drop 0 text)) where
+  pub first-refused : (numbers targets : List ℕ) → not opens ≡ true → Refused text numbers targets
+  first-refused numbers targets f =
+      text-refused numbers targets (λ p rel c. true-false (o ∙ candidate-first c) (not-true _ f))
+
+  pub first-long : not opens ≡ false → 17 ≤ length text
+  first-long f = starts-length firstLine text (sym o ∙ not-false _ f)
+
+module _ {text numbers : List ℕ} {r : Nodes} (nodes : NodesFound text numbers r) where
+  pub nodes-refused : (targets : List ℕ) → r .count ≡ 0 → Refused text numbers targets
+  nodes-refused targets z = text-refused numbers targets (λ p rel c. candidate-some c nodes z)
+
+  module _ (some : r .count ≡ 0 → ⊥) where
+    some-nodes : 0 < r .count
+    some-nodes = omega arith
+
+    pub nodes-inside : r .end ≤ length text
+    nodes-inside = nodes .stand some-nodes .spans .inside
+
+    pub machines-refused : (targets : List ℕ) {n : ℕ} → Gapless (r .seen) n → n < r .count
+        → Refused text numbers targets
+    machines-refused targets gapless l =
+        text-refused numbers targets (λ p rel c. candidate-machines c nodes some-nodes gapless l)
+
+  module _ {targets : List ℕ} {e : End} (edges : EdgesFound text (r .end) (r .count) targets e) where
+    pub edges-refused : not (e .fits) ≡ true → Refused text numbers targets
+    edges-refused f = text-refused numbers targets (λ p rel c. candidate-fits c nodes edges (not-true _ f))
+
+    pub edges-inside : not (e .fits) ≡ false → e .end ≤ length text
+    edges-inside f = edges .stand (not-false _ f) .spans .inside
+
+    pub end-refused : {closes : Bool}
+        → closes ≡ (startsWith lastLine (drop (e .end) text) && eqb (e .end + 2) (length text)) → not closes ≡ true
+        → Refused text numbers targets
+    end-refused is f = text-refused numbers targets (λ p rel c. candidate-ends c nodes edges (sym is ∙ not-true _ f))

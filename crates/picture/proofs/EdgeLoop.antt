@@ -1,10 +1,13 @@
 -- The edges from a group, read one after the other.
 -- Assumes nothing.
-use Prim.Native.Nat.{ℕ, _+_, _≤_, _<_}
+use Prim.Native.Nat.{ℕ, _+_, _*_, _-_, _^_, _≤_, _<_}
 use mathlib.Core.Path.{_≡_, refl, sym, ap, _∙_}
 use mathlib.Core.List.{List, [], _∷_, _++_, append-assoc, append-nil}
-use mathlib.Core.Bool.{Bool, true, false}
+use mathlib.Core.Bool.{Bool, true, false, not}
 use native.Mathlib.Omega.{arith}
+use borrow.Author.Tests.{not-true, not-false}
+use mir.Val.{Fits}
+use mir.Syntax.{w64}
 use lib.ListN.{length, drop, length-append}
 use Rattle.common.specs.Bits.{bit}
 use Rattle.common.specs.Lists.{upTo, filter}
@@ -70,22 +73,26 @@ module _ (text : List ℕ) (at a n : ℕ) where
         among (k ∷ todo) all-are stand =
             absurd (true-false (starts-there (edgeStart a) _ (stand ∙ row-parts a k todo rest)) f)
 
-    pub row-ends : opens ≡ false → RowFound text at a n (record { targets = targets; end = end; fits = true })
-    row-ends f =
-        record { below = λ t. u .below; spans = λ t. u .spans; only = λ q rest j. (refl, ended f q rest j) }
+    pub row-ends : {o : Bool} → o ≡ opens → o ≡ false
+        → RowFound text at a n (record { targets = targets; end = end; fits = true })
+    row-ends e f =
+        record { below = λ t. u .below; spans = λ t. u .spans; only = λ q rest j. (refl, ended (sym e ∙ f) q rest j) }
 
     -- An edge more
 
-    module _ (t : opens ≡ true) {width : ℕ} (w : width ≡ length (decimal a)) where
+    module _ {o : Bool} (e : o ≡ opens) (t : o ≡ true) {width : ℕ} (w : width ≡ length (decimal a)) where
       place : end + (8 + width) ≡ end + length (edgeStart a)
       unfolding lineStart
       place = omega (arith, length-append (lineStart a) arrow)
 
       head : Spans text end (edgeStart a) (end + (8 + width))
-      head = rw place (spans-bytes (edgeStart a) (u .spans .inside) t)
+      head = rw place (spans-bytes (edgeStart a) (u .spans .inside) (sym e ∙ t))
 
       pub row-inside : end + (8 + width) ≤ length text
       row-inside = head .inside
+
+      pub head-room : length text * 1 < 2 ^ 63 → Fits w64 (end + (8 + width))
+      head-room l = omega (arith, row-inside)
 
       module _ {r : Number} (found : NumberFound text (end + (8 + width)) targets n r) (small : n ≤ 64) where
         -- the next that can stand there is the one that was read
@@ -103,7 +110,7 @@ module _ (text : List ℕ) (at a n : ℕ) where
             among : (todo : List ℕ) → filter q (upTo n) ≡ elements targets ++ todo
                 → drop end text ≡ edgesOf a todo ++ rest → Next q rest
             among [] all-are stand =
-                let opened = starts-rest (edgeStart a) (drop end text) t in
+                let opened = starts-rest (edgeStart a) (drop end text) (sym e ∙ t) in
                 absurd (j .closed _ (sym (stand ∙ ap (λ r. r ++ rest) (row-none a)) ∙ opened))
             among (i ∷ todo) all-are stand =
                 let there = spans-rest head (stand ∙ row-parts a i todo rest) in
@@ -117,20 +124,34 @@ module _ (text : List ℕ) (at a n : ℕ) where
                   stand = spans-rest (found .spans fits) (rw same there);
                 }
 
-        pub row-stops : (last : ℕ) → r .fits ≡ false
+        pub row-stops : (last : ℕ) → not (r .fits) ≡ true
             → RowFound text at a n (record { targets = 0; end = last; fits = false })
-        row-stops last f = row-refused last (λ q rest j. true-false (next-is q rest j .fits) f)
+        row-stops last f = row-refused last (λ q rest j. true-false (next-is q rest j .fits) (not-true _ f))
 
         abbrev closes : Bool
         closes = startsWith edgeEnd (drop (r .end) text)
 
-        pub row-other : (last : ℕ) → closes ≡ false
+        pub row-other : {b : Bool} (last : ℕ) → b ≡ closes → not b ≡ true
             → RowFound text at a n (record { targets = 0; end = last; fits = false })
-        row-other last f = row-refused last (λ q rest j. true-false (starts-there edgeEnd _ (next-is q rest j .stand)) f)
+        row-other last is f =
+            row-refused last (λ q rest j.
+            true-false (is ∙ starts-there edgeEnd _ (next-is q rest j .stand)) (not-true _ f))
 
-        module _ (fits : r .fits ≡ true) where
-          pub row-longer : (end < r .end) × (r .end ≤ length text)
-          row-longer = let s = found .spans fits in (omega (arith, s .place), s .inside)
+        module _ (some : not (r .fits) ≡ false) where
+          fits : r .fits ≡ true
+          fits = not-false _ some
+
+          pub row-small : r .value < 64
+          row-small = omega (arith, found .below fits)
+
+          pub row-within : r .end ≤ length text
+          row-within = found .spans fits .inside
+
+          pub row-room : length text * 1 < 2 ^ 63 → Fits w64 (r .end + 2)
+          row-room l = omega (arith, row-within)
+
+          pub row-less : length text - (r .end + 2) < length text - end
+          row-less = let s = found .spans fits in omega (arith, s .place, s .inside)
 
           line-spans : closes ≡ true → Spans text end (edgeLine (edge a (r .value))) (r .end + 2)
           unfolding edgeLine
@@ -139,15 +160,16 @@ module _ (text : List ℕ) (at a n : ℕ) where
               rw (sym (append-assoc (lineStart a) arrow (decimal (r .value))))
               (spans-then (spans-then head numbered) (spans-bytes edgeEnd (numbered .inside) c))
 
-          pub row-next : {targets' : ℕ} → closes ≡ true → targets' ≡ union targets (alone (r .value))
-              → RowUpto targets' (r .end + 2)
-          row-next {targets'} c m =
+          pub row-next : {b : Bool} {targets' : ℕ} → b ≡ closes → not b ≡ false
+              → targets' ≡ union targets (alone (r .value)) → RowUpto targets' (r .end + 2)
+          row-next {targets' = targets'} is c m =
               let l = found .below fits in
               let now-are : elements targets' ≡ elements targets ++ (r .value ∷ []) =
               ap elements m ∙ elements-more targets (r .value) (omega arith) (found .above fits) in
               record {
                 below = grown-below targets (u .below) l m;
-                spans = rw (now-are, row-snoc a (r .value) (elements targets)) (spans-then (u .spans) (line-spans c));
+                spans = rw (now-are, row-snoc a (r .value) (elements targets))
+                    (spans-then (u .spans) (line-spans (sym is ∙ not-false _ c)));
                 left = λ q rest j.
                     let next = next-is q rest j in
                     record {

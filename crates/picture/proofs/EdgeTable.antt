@@ -4,10 +4,11 @@ use Prim.Native.Nat.{ℕ, suc, _+_, _-_, _≤_, _<_}
 use mathlib.Core.Path.{_≡_, refl, sym, ap, _∙_}
 use mathlib.Core.Logic.{⊎-elim}
 use mathlib.Core.List.{List, _++_, flatMap, append-assoc}
-use mathlib.Core.Bool.{Bool, true, false}
+use mathlib.Core.Bool.{Bool, true, false, not}
 use native.Mathlib.Nat.{le-antisymm}
 use native.Mathlib.Numerals.{add-one}
 use native.Mathlib.Omega.{arith}
+use borrow.Author.Tests.{not-true, not-false}
 use lib.ListN.{length, getD, set, drop, length-set}
 use lib.Seq.{getD-set-same, getD-set-other}
 use Rattle.common.specs.Bits.{bit}
@@ -78,16 +79,20 @@ module _ (text : List ℕ) (at n : ℕ) where
                 (e ∙ append-assoc (lineStart a) arrow more);
           }
 
-      pub edges-stop : (last : ℕ) → r .fits ≡ false → EdgesFound text at n targets (record { end = last; fits = false })
+      pub edges-stop : (last : ℕ) → not (r .fits) ≡ true
+          → EdgesFound text at n targets (record { end = last; fits = false })
       edges-stop last f =
           record {
             stand = λ t. absurd (true-false refl (sym t));
-            only = λ rel d. absurd (true-false (found .only (rel a) _ (next-joined rel d) .0) f);
+            only = λ rel d. absurd (true-false (found .only (rel a) _ (next-joined rel d) .0) (not-true _ f));
           }
 
-      pub edges-next : r .fits ≡ true → n ≤ size → EdgesUpto size (set targets a (r .targets)) (a + 1) (r .end)
-      edges-next t room = rw (add-one a) next
+      pub edges-next : not (r .fits) ≡ false → n ≤ size → EdgesUpto size (set targets a (r .targets)) (a + 1) (r .end)
+      edges-next f room = rw (add-one a) next
         where
+          t : r .fits ≡ true
+          t = not-false _ f
+
           after : List ℕ
           after = set targets a (r .targets)
 

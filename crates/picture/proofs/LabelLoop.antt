@@ -1,11 +1,13 @@
 -- The machines of a label, read one after the other.
 -- Assumes nothing.
-use Prim.Native.Nat.{ℕ, _+_, _≤_, _<_}
+use Prim.Native.Nat.{ℕ, _+_, _*_, _-_, _^_, _≤_, _<_}
 use mathlib.Core.Path.{_≡_, refl, sym, ap, _∙_}
 use mathlib.Core.List.{List, [], _∷_, _++_, append-assoc, append-nil}
-use mathlib.Core.Bool.{Bool, true, false}
+use mathlib.Core.Bool.{Bool, true, false, not}
 use native.Mathlib.Omega.{arith}
-use borrow.Author.Tests.{eqb-true, eqb-false}
+use borrow.Author.Tests.{eqb-true, eqb-false, not-true, not-false}
+use mir.Val.{Fits}
+use mir.Syntax.{w64}
 use lib.Dec.{eqb}
 use lib.ListN.{length, getD, drop, length-append}
 use Rattle.common.specs.Bits.{bit}
@@ -77,6 +79,12 @@ module _ (text : List ℕ) (at : ℕ) where
     pub label-inside : end < length text
     label-inside = byte-inside text end byte (separator-some (elements machines))
 
+    pub label-room : length text * 1 < 2 ^ 63 → Fits w64 (end + 1)
+    label-room l = omega (arith, label-inside)
+
+    pub label-onward : end + 1 ≤ length text
+    label-onward = omega (arith, label-inside)
+
   module _ {machines end : ℕ} {more : Bool} (u : LabelUpto machines end more) (on : more ≡ true) {r : Number}
       (found : NumberFound text (end + 1) machines 32 r) where
     -- the next that can stand there is the one that was read
@@ -111,22 +119,28 @@ module _ (text : List ℕ) (at : ℕ) where
               stand = spans-rest (found .spans fits) (rw same there);
             }
 
-    pub label-stops : (last : ℕ) → r .fits ≡ false → LabelFound text at (record { machines = 0; end = last })
-    label-stops last f = label-refused last (λ q n rest h. true-false (next-is q n rest h .fits) f)
+    pub label-stops : (last : ℕ) → not (r .fits) ≡ true → LabelFound text at (record { machines = 0; end = last })
+    label-stops last f = label-refused last (λ q n rest h. true-false (next-is q n rest h .fits) (not-true _ f))
 
-    module _ (t : r .fits ≡ true) where
-      pub label-longer : (end < r .end) × (r .end ≤ length text)
-      label-longer = let s = found .spans t in (omega (arith, s .place), s .inside)
+    module _ (some : not (r .fits) ≡ false) where
+      fits : r .fits ≡ true
+      fits = not-false _ some
+
+      pub label-small : r .value < 64
+      label-small = omega (arith, found .below fits)
+
+      pub label-less : length text - r .end < length text - end
+      label-less = let s = found .spans fits in omega (arith, s .place, s .inside)
 
       pub label-next : {machines' : ℕ} {more' : Bool} → machines' ≡ union machines (alone (r .value))
           → more' ≡ eqb (getD text (r .end) 0) 32 → LabelUpto machines' (r .end) more'
       label-next {machines'} m g =
-          let small = found .below t in
+          let small = found .below fits in
           let now-are : elements machines' ≡ elements machines ++ (r .value ∷ []) =
-          ap elements m ∙ elements-more machines (r .value) (omega arith) (found .above t) in
+          ap elements m ∙ elements-more machines (r .value) (omega arith) (found .above fits) in
           let s : separator 34 (elements machines') ≡ 32 =
           ap (separator 34) now-are ∙ separator-snoc 34 (r .value) (elements machines) in
-          let one = spans-then (spans-byte (byte u on) (separator-some (elements machines))) (found .spans t) in
+          let one = spans-then (spans-byte (byte u on) (separator-some (elements machines))) (found .spans fits) in
           record {
             few = grown-below machines (u .few) small m;
             spans = rw (now-are, labels-snoc 34 (r .value) (elements machines)) (spans-then (u .spans) one);
@@ -165,16 +179,23 @@ module _ (text : List ℕ) (at : ℕ) where
             let later = separator-later (elements machines) (u .some off) in
             absurd (u .ends off (byte-there text end stand ∙ later))
 
-    pub label-other : (last : ℕ) → startsWith labelEnd (drop end text) ≡ false
-        → LabelFound text at (record { machines = 0; end = last })
-    label-other last f =
-        label-refused last (λ q n rest h. true-false (starts-there labelEnd rest (ended q n rest h .stand)) f)
+    abbrev closes : Bool
+    closes = startsWith labelEnd (drop end text)
 
-    pub label-ends : startsWith labelEnd (drop end text) ≡ true
+    pub label-other : {b : Bool} (last : ℕ) → b ≡ closes → not b ≡ true
+        → LabelFound text at (record { machines = 0; end = last })
+    label-other last is f =
+        label-refused last (λ q n rest h.
+        true-false (is ∙ starts-there labelEnd rest (ended q n rest h .stand)) (not-true _ f))
+
+    pub label-behind : length text * 1 < 2 ^ 63 → Fits w64 (end + 4)
+    label-behind l = omega (arith, u .spans .inside)
+
+    pub label-ends : {b : Bool} → b ≡ closes → not b ≡ false
         → LabelFound text at (record { machines = machines; end = end + 4 })
-    label-ends t =
+    label-ends is t =
         record {
           few = u .few;
-          spans = λ l. spans-then (u .spans) (spans-bytes labelEnd (u .spans .inside) t);
+          spans = λ l. spans-then (u .spans) (spans-bytes labelEnd (u .spans .inside) (sym is ∙ not-false _ t));
           only = λ q n rest h. sym (ended q n rest h .all-are);
         }

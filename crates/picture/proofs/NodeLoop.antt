@@ -1,13 +1,15 @@
 -- The nodes of a text, read one after the other.
 -- Assumes nothing.
-use Prim.Native.Nat.{ℕ, _+_, _≤_, _<_}
+use Prim.Native.Nat.{ℕ, _+_, _-_, _≤_, _<_}
 use mathlib.Core.Path.{_≡_, sym, ap, subst, _∙_}
 use mathlib.Core.Logic.{⊎-elim}
 use mathlib.Core.List.{List, _∷_, _++_, flatMap, List·Memᴰ}
 use mathlib.Core.Bool.{Bool, true, false, not, _&&_}
 use native.Mathlib.Numerals.{add-one}
 use native.Mathlib.Omega.{arith}
-use borrow.Author.Tests.{eq-eqb, eqb-true, eqb-false, ne-eqb, lt-ltb, ltb-true, not-true}
+use borrow.Author.Tests.{eq-eqb, eqb-true, eqb-false, ne-eqb, lt-ltb, ltb-true, not-true, not-false}
+use mir.Val.{Fits}
+use mir.Syntax.{w8}
 use lib.Dec.{eqb, ltb}
 use lib.ListN.{length, getD, drop}
 use Rattle.common.specs.Bits.{bit}
@@ -91,29 +93,39 @@ module _ (text : List ℕ) where
         let few = g .few in
         and-intro (lt-ltb k 32 (omega arith)) (rw there (node-begins k (members groups k) _ (g .some k l)))
 
-    pub nodes-end : opens ≡ false → NodesFound text numbers (record { seen = seen; count = k; end = at })
-    nodes-end f =
+    pub nodes-end : {o : Bool} → o ≡ opens → o ≡ false
+        → NodesFound text numbers (record { seen = seen; count = k; end = at })
+    nodes-end e f =
         record {
           count = u .inside;
           stand = λ l. u .stand;
           only = λ groups rest g.
-              let n : ¬ (k < groupCount groups) = λ l. true-false (line-opens groups rest g l) f in
+              let n : ¬ (k < groupCount groups) = λ l. true-false (e ∙ line-opens groups rest g l) f in
               let m = u .not-more groups rest g in
-              let e : k ≡ groupCount groups = omega arith in (
-                e,
+              let all : k ≡ groupCount groups = omega arith in (
+                all,
                 λ j l. u .same groups rest g j l,
-                pieces-end (nodesOf groups) (groupCount groups) k rest (spans-same groups rest g) (g .stands) e,
+                pieces-end (nodesOf groups) (groupCount groups) k rest (spans-same groups rest g) (g .stands) all,
               );
         }
 
     -- A node more
 
-    module _ (t : opens ≡ true) where
+    module _ {o : Bool} (e : o ≡ opens) (t : o ≡ true) where
       pub node-few : k < 32
-      node-few = ltb-true k 32 (and-left _ _ t)
+      node-few = ltb-true k 32 (and-left _ _ (sym e ∙ t))
+
+      pub node-named : k < 100
+      node-named = omega (arith, node-few)
+
+      pub node-byte : Fits w8 k
+      node-byte = omega (arith, node-few)
+
+      pub node-less : 32 - (k + 1) < 32 - k
+      node-less = omega (arith, node-few)
 
       pub node-opened : startsWith (nodeStart k) (drop at text) ≡ true
-      node-opened = and-right (ltb k 32) _ t
+      node-opened = and-right (ltb k 32) _ (sym e ∙ t)
 
       abbrev more : List ℕ
       more = drop (length (nodeStart k)) (drop at text)
@@ -162,15 +174,20 @@ module _ (text : List ℕ) where
             (subst (λ is. List·Memᴰ i is) (u .same groups rest g j lower) (is-labelled numbers seen (omega arith) old)) in
             let f : ⊥ = omega arith in f))))
 
-        pub node-stops : fresh ≡ false → NodesFound text numbers (record { seen = 0; count = 0; end = 0 })
-        node-stops f = nodes-refused numbers (λ groups rest g. true-false (is-fresh groups rest g) f)
+        pub node-stops : {b : Bool} → b ≡ fresh → not b ≡ true
+            → NodesFound text numbers (record { seen = 0; count = 0; end = 0 })
+        node-stops is f =
+            nodes-refused numbers (λ groups rest g. true-false (is ∙ is-fresh groups rest g) (not-true _ f))
 
-        module _ (f : fresh ≡ true) where
+        module _ {b : Bool} (is : b ≡ fresh) (f : not b ≡ false) where
+          new : fresh ≡ true
+          new = sym is ∙ not-false _ f
+
           apart : both (l .machines) seen ≡ 0
-          apart = eqb-true _ 0 (and-right (not (eqb (l .machines) 0)) _ f)
+          apart = eqb-true _ 0 (and-right (not (eqb (l .machines) 0)) _ new)
 
           not-none : l .machines ≡ 0 → ⊥
-          not-none = eqb-false (l .machines) 0 (not-true _ (and-left _ _ f))
+          not-none = eqb-false (l .machines) 0 (not-true _ (and-left _ _ new))
 
           pub node-next : {after : List ℕ} {seen' : ℕ} → Marked numbers (l .machines) k after
               → seen' ≡ union seen (l .machines) → NodesUpto after seen' (k + 1) (l .end)

@@ -6,7 +6,7 @@ use mathlib.Core.List.{List}
 use mathlib.Core.Bool.{Bool, true, false, not, _&&_, _||_, and-true}
 use native.Mathlib.Omega.{arith}
 use mathlib.Core.Logic.{⊎-elim}
-use borrow.Author.Tests.{eqb-true, eq-eqb, leb-true, leb-false, le-leb, lt-leb}
+use borrow.Author.Tests.{eqb-true, eq-eqb, leb-true, leb-false, le-leb, lt-leb, not-true, not-false}
 use lib.Dec.{eqb, leb}
 use lib.ListN.{length, getD}
 use Rattle.common.specs.Bits.{bit}
@@ -45,9 +45,13 @@ module _ {numbers targets : List ℕ} (s : Shows numbers targets) where
     low : k - 1 < 32
     low = omega (arith, u .turns .inside, s .few-groups, some)
 
-    pub new-groups : {new : ℕ} → new ≡ less (getD targets (k - 1) 0) waiting → (g : ℕ) → bit new g ≡ true → g < 32
+    new-groups : {new : ℕ} → new ≡ less (getD targets (k - 1) 0) waiting → (g : ℕ) → bit new g ≡ true → g < 32
     new-groups e g t =
         omega (arith, s .inside (k - 1) g (less-from _ waiting g (ap (λ x. bit x g) (sym e) ∙ t)), s .few-groups)
+
+    pub groups-inside : {new : ℕ} → new ≡ less (getD targets (k - 1) 0) waiting → length members ≡ 32 → (g : ℕ)
+        → bit new g ≡ true → g < length members
+    groups-inside e long g t = omega (arith, new-groups e g t)
 
     from-one-less : (g : ℕ) → (leb k g || eqb g (k - 1)) ≡ leb (k - 1) g
     from-one-less g =
@@ -77,26 +81,23 @@ module _ {numbers targets : List ℕ} (s : Shows numbers targets) where
           (by-cases (bit waiting g) (λ t. rw t refl) (λ f. rw f (and-true (bit (getD targets (k - 1) 0) g)))))
           h
 
-      module _ {ready : ℕ} (r : ready ≡ less later' held') where
+      module _ {ready : ℕ} {b : Bool} (r : ready ≡ less later' held') (fits : ready < 2 ^ 64)
+          (e : b ≡ (not (eqb ready 0) && eqb (getD numbers (least ready) 0) (k - 1))) where
         ready-is : MachinesIn numbers (λ g. leb (k - 1) g && not (bit waiting' g)) ready
         ready-is = machines-without numbers later-next held-next r
 
-        pub set-turn : {b : Bool} → ready < 2 ^ 64
-            → b ≡ (not (eqb ready 0) && eqb (getD numbers (least ready) 0) (k - 1))
-            → b ≡ inTurn (shown numbers targets) (k - 1)
-        set-turn fits e =
+        turn : b ≡ inTurn (shown numbers targets) (k - 1)
+        turn =
             e ∙ turn-by-set numbers waiting' (k - 1) fits ready-is
             ∙ turn-is s (turn-waits numbers targets (u .turns) some w)
 
-      pub sets-next : inTurn (shown numbers targets) (k - 1) ≡ true
-          → TurnSets numbers targets (k - 1) waiting' later' held'
-      sets-next t =
-          record {
-            turns = turns-next numbers targets (u .turns) some w t;
-            later-are = later-next;
-            held-are = held-next;
-          }
+        pub sets-next : not b ≡ false → TurnSets numbers targets (k - 1) waiting' later' held'
+        sets-next t =
+            record {
+              turns = turns-next numbers targets (u .turns) some w (sym turn ∙ not-false _ t);
+              later-are = later-next;
+              held-are = held-next;
+            }
 
-      pub sets-fail : inTurn (shown numbers targets) (k - 1) ≡ false
-          → false ≡ all (inTurn (shown numbers targets)) (upTo (length targets))
-      sets-fail f = turn-fails numbers targets (u .turns) some w f
+        pub sets-fail : not b ≡ true → false ≡ all (inTurn (shown numbers targets)) (upTo (length targets))
+        sets-fail f = turn-fails numbers targets (u .turns) some w (sym turn ∙ not-true _ f)

@@ -37,14 +37,12 @@ pub mod ModeDigits
 pub mod Modes
 pub mod ModesRight
 pub mod MoveLinks
-pub mod MoveTurns
 pub mod MovesLinking
 pub mod Named
 pub mod NamedAny
 pub mod NamedGroups
 pub mod NamedLoop
 pub mod NearestLoop
-pub mod NeedLoop
 pub mod NeedSets
 pub mod Needs
 pub mod NeedsNamed
@@ -62,6 +60,7 @@ pub mod PlanWritten
 pub mod Planned
 pub mod PlannedStill
 pub mod Planning
+pub mod PutLoop
 pub mod Radix
 pub mod ReachLoop
 pub mod ReadBack

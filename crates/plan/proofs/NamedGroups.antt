@@ -69,12 +69,12 @@ module _ {groups : Grouping} {v : Move} {own : ℕ} where
 
 -- One turn of the loop over a sheet's moves, by what its calls ensure
 
-module _ {m : Model} {file bodies : List ℕ} (l : Listed m file bodies) {v : ℕ} (h : v < length bodies) where
+module _ {m : Model} {file places : List ℕ} (l : Listed m file places) {v : ℕ} (h : v < length places) where
   -- its byte among 250
   pub turn-counted : {numbers : List ℕ} (counted : List ℕ) → Numbered m numbers → length counted ≡ 250 → v < length counted
   turn-counted counted n e = omega (arith, l .one-each, n .valid .few-moves)
 
-  module _ {b : List ℕ} (e : b ≡ bodyAt file (getD bodies v 0 - 4)) where
+  module _ {b : List ℕ} (e : b ≡ bodyAt file (getD places v 0)) where
     pub turn-some : 0 < length b
     turn-some = omega (arith, listed-long l h e)
 
@@ -99,8 +99,8 @@ module _ {m : Model} {file bodies : List ℕ} (l : Listed m file bodies) {v : �
 
 -- After the last move
 
-module _ {m : Model} {file bodies : List ℕ} (l : Listed m file bodies) {v : ℕ} {numbers r : List ℕ} (n : Numbered m numbers)
-    (within : v ≤ length bodies) (past : length bodies ≤ v) where
+module _ {m : Model} {file places : List ℕ} (l : Listed m file places) {v : ℕ} {numbers r : List ℕ} (n : Numbered m numbers)
+    (within : v ≤ length places) (past : length places ≤ v) where
   pub turns-named : (counts : ℕ → Bool) → NamedUpto m numbers counts v r → (k a : ℕ) → k < 32
       → bit (getD r k 0) a ≡ any (eqb a) (namedOutside m numbers k (filter counts (movesOf m numbers k)))
   turns-named counts named =

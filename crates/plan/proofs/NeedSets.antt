@@ -23,18 +23,16 @@ use Rattle.sets.specs.Kept.Sets.{union}
 use Rattle.sets.proofs.Laws.{bit-none}
 use Rattle.sets.proofs.Joined.{bit-joined}
 use Rattle.search.specs.Kept.Search.{Holds}
-use Rattle.sheet.specs.declared.index.Sheet.{Sheet}
 use Rattle.sheet.specs.Record.{byte, bodyAt}
 use Rattle.sheet.specs.Model.{Move, Model, machineCount, moveCount, moveAt, noMove, moveOf}
 use Rattle.sheet.specs.Valid.{Valid}
-use Rattle.sheet.specs.Kept.Indexed.{Indexes}
-use Rattle.sheet.proofs.Indexed.{indexes-valid}
+use Rattle.sheet.specs.Kept.Indexed.{Listed}
+use Rattle.sheet.proofs.Indexed.{listed-present, listed-move, listed-machine}
 use Rattle.plan.specs.Needs.{names, needs, needGraph}
 use Rattle.plan.specs.Kept.MachineSets.{NamedIn}
 use Rattle.plan.proofs.Named.{move-valid, guard-valid}
 use Rattle.plan.proofs.Words.{needs-means}
 use Rattle.plan.proofs.Needs.{length-needGraph, need-successor, successor-need}
-use Rattle.plan.proofs.MoveTurns.{turn-present, turn-move, turn-machine, turn-machine-below}
 
 -- move v is one of machine i, and names j
 abbrev needBy : ℕ → ℕ → Move → Bool
@@ -114,13 +112,13 @@ module _ {m : Model} (valid : Valid m) where
 
 -- One turn, by what its calls ensure
 
-module _ {s : List ℕ} {x : Sheet} {m : Model} (i : Indexes s x m) {v : ℕ} (h : v < x .moves)
-    {b : List ℕ} (e : b ≡ bodyAt s (getD (x .bodies) v 0 - 4)) {k : ℕ} (f : k ≡ byte b 0) where
+module _ {file places : List ℕ} {m : Model} (l : Listed m file places) (valid : Valid m) {v : ℕ} (h : v < length places)
+    {b : List ℕ} (e : b ≡ bodyAt file (getD places v 0)) {k : ℕ} (f : k ≡ byte b 0) where
   pub turn-fits : k < 64
-  turn-fits = omega (arith, turn-machine-below i h e, indexes-valid i .few-machines)
+  turn-fits = omega (arith, listed-machine l h e, valid .moves-valid v (listed-present l h) .present, valid .few-machines)
 
   pub turn-reads : {u t : ℕ} {next : List ℕ} → NeedsRead m v next → NamedIn (moveOf b) u → u < 2 ^ 64
       → t ≡ union (getD next k 0) u → NeedsRead m (v + 1) (set next k t)
-  turn-reads {u} r n l =
-      reads-next m u r (turn-present i h) turn-fits (f ∙ turn-machine i h e)
-      (named-bits (indexes-valid i) v (turn-present i h) (subst (λ w. NamedIn w u) (turn-move i h e) n) l)
+  turn-reads {u} r n few =
+      reads-next m u r (listed-present l h) turn-fits (f ∙ listed-machine l h e)
+      (named-bits valid v (listed-present l h) (subst (λ w. NamedIn w u) (listed-move l h e) n) few)

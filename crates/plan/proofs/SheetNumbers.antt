@@ -31,9 +31,9 @@ module _ {s : List ℕ} {x : Sheet} {m : Model} (i : Indexes s x m) {numbers : L
   pub numbers-of : Numbered m numbers
   numbers-of = record { valid = indexes-valid i; one-each = n .one-each ∙ indexes-machines i; below = n .below }
 
--- the moves' bodies, as they are lent
-pub bodies-lent : {s : List ℕ} {x : Sheet} {m : Model} → Indexes s x m → x .moves ≡ length (take (x .moves) (x .bodies))
-bodies-lent i = sym (length-take-le _ _ (indexes-room i))
+-- the moves' places, as they are lent
+pub places-lent : {s : List ℕ} {x : Sheet} {m : Model} → Indexes s x m → x .moves ≡ length (take (x .moves) (x .places))
+places-lent i = sym (length-take-le _ _ (indexes-room i))
 
 -- where each of 250 bytes is 1, all moves count
 pub all-counted : (m : Model) (groups : Grouping) → Valid m → (k : ℕ)

@@ -3,7 +3,7 @@ use crate::sizing::Group;
 use crate::sizing::group_of;
 use sheet::index::Machine;
 use sheet::index::Sheet;
-use sheet::record::body;
+use sheet::index::move_body;
 use sheet::record::wide;
 ghost use mathlib.Core.Path.{_≡_};
 ghost use Prim.Native.Nat.{_<_, _≤_};
@@ -37,11 +37,13 @@ fn needed(s: &[u8], sheet: Sheet) -> [u64; sets::NUMBERS]
     requires { ⌜ Indexed (now s) sheet ⌝ }
     ensures { λ r. ⌜ ((m : Model) → Indexes (now (s .entry)) sheet m → Holds (needGraph m) r) ⌝ }
 {
+    let moves = sheet.moves;
+    let all = &sheet.places[..];
+    let places = &all[..moves];
     let mut next = [0u64; sets::NUMBERS];
     let mut v: usize = 0;
-    while v < sheet.moves {
-        let start = sheet.bodies[v] as usize;
-        let b = body(s, start - 4);
+    while v < places.len() {
+        let b = move_body(s, places, v);
         let i = wide(b[0]);
         next[i] = sets::join(next[i], named(b));
         v += 1;

@@ -21,8 +21,8 @@ pub record Grown (d e : Parsed) (machines moves at next : ℕ) : Type 0 where
   pub moves-read : moveCount (e .model) ≡ moveCount (d .model) + moves
   pub bytes-read : next ≤ at + (6 * machines + 24 * moves)
 
-module _ (d : Parsed) (start : ℕ) (body : List ℕ) (at next : ℕ) where
-  pub grown-machine : next ≤ at + 6 → Grown d (extended d 1 start body) 1 0 at next
+module _ (d : Parsed) (body : List ℕ) (at next : ℕ) where
+  pub grown-machine : next ≤ at + 6 → Grown d (extended d 1 at body) 1 0 at next
   unfolding extended withMachine
   grown-machine h =
       record {
@@ -31,7 +31,7 @@ module _ (d : Parsed) (start : ℕ) (body : List ℕ) (at next : ℕ) where
         bytes-read = omega arith;
       }
 
-  pub grown-move : next ≤ at + 24 → Grown d (extended d 2 start body) 0 1 at next
+  pub grown-move : next ≤ at + 24 → Grown d (extended d 2 at body) 0 1 at next
   unfolding extended withMove
   grown-move h =
       record {
@@ -50,6 +50,6 @@ one-more s at d kind start len next e w q =
     let k = part-length s start len (h .within) in
     rw (← g .reads)
     (⊎-elim
-    (λ c. inl (rw (c .0) (grown-machine d start body at next (omega (arith, c .1 .two-bytes, g .goes-behind)))))
-    (λ c. inr (rw (c .0) (grown-move d start body at next (omega (arith, c .1 .short, g .goes-behind)))))
+    (λ c. inl (rw (c .0) (grown-machine d body at next (omega (arith, c .1 .two-bytes, g .goes-behind)))))
+    (λ c. inr (rw (c .0) (grown-move d body at next (omega (arith, c .1 .short, g .goes-behind)))))
     (machine-or-move (d .model) at kind body (g .clear) (g .no-end)))

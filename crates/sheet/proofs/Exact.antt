@@ -77,16 +77,16 @@ module _ (m : Model) where
       ∙ sym (append-assoc (machineRecords m) (moveRecords m) (recordOf 2 (moveBody v)))
 
 -- a record that was read writes what it stands for
-module _ (d : Parsed) (start : ℕ) (body : List ℕ) where
+module _ (d : Parsed) (at : ℕ) (body : List ℕ) where
   pub machine-written : length (d .model .live) ≡ machineCount (d .model) → MachinePasses (d .model) body
-      → recordsOf (d .model) ++ recordOf 1 body ≡ recordsOf (extended d 1 start body .model)
+      → recordsOf (d .model) ++ recordOf 1 body ≡ recordsOf (extended d 1 at body .model)
   unfolding extended
   machine-written paired c =
       ap (λ l. recordsOf (d .model) ++ recordOf 1 l) (sym (machine-body-back body (c .two-bytes)))
       ∙ sym (machine-recorded (d .model) (byte body 0) (byte body 1) paired (c .no-move-yet))
 
   pub move-written : MovePasses (d .model) body
-      → recordsOf (d .model) ++ recordOf 2 body ≡ recordsOf (extended d 2 start body .model)
+      → recordsOf (d .model) ++ recordOf 2 body ≡ recordsOf (extended d 2 at body .model)
   unfolding extended
   move-written c =
       ap (λ l. recordsOf (d .model) ++ recordOf 2 l) (sym (move-body-back body (c .long) (c .even)))
@@ -112,8 +112,8 @@ module _ (s : List ℕ) (bytes : (i : ℕ) → byte s i < 256) where
             ap (λ i. take i s) (sym (g .goes-behind)) ∙ record-taken s bytes at w
             ∙ ap (λ l. l ++ recordOf kind body) (h .taken)
             ∙ ⊎-elim
-            (λ c. rw (c .0) (machine-written d start body (h .sound .valid .same-length) (c .1)))
-            (λ c. rw (c .0) (move-written d start body (c .1)))
+            (λ c. rw (c .0) (machine-written d at body (h .sound .valid .same-length) (c .1)))
+            (λ c. rw (c .0) (move-written d at body (c .1)))
             (machine-or-move (d .model) at kind body (g .clear) (g .no-end))
             ∙ ap (λ x. recordsOf (x .model)) (g .reads);
       }

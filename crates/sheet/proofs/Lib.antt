@@ -18,6 +18,7 @@ pub mod Judging
 pub mod Keyed
 pub mod Keys
 pub mod Modes
+pub mod NeedLoop
 pub mod Overwriting
 pub mod Parsed
 pub mod Passes

@@ -1,8 +1,8 @@
 -- What a sheet that was read guarantees: its model is valid, it has a machine, and each move stands in the file where
 -- the index says.
 -- Assumes nothing.
-use Prim.Native.Nat.{ℕ, _+_, _-_, _*_, _%_, _≤_, _<_}
-use mathlib.Core.Path.{_≡_, refl, sym, ap, subst, _∙_}
+use Prim.Native.Nat.{ℕ, _+_, _*_, _%_, _≤_, _<_}
+use mathlib.Core.Path.{_≡_, refl, sym, subst}
 use mathlib.Core.Logic.{⊎-elim}
 use mathlib.Core.List.{List, [], _∷_, _++_}
 use mathlib.Core.Bool.{true}
@@ -16,50 +16,46 @@ use Rattle.common.specs.Reply.{given}
 use Rattle.common.proofs.Reply.{Clear}
 use Rattle.common.proofs.Snoc.{length-snoc, snoc-each}
 use Rattle.sheet.specs.declared.record.Record.the-variants.{Whole}
-use Rattle.sheet.specs.Record.{word, recordAt, part}
+use Rattle.sheet.specs.Record.{recordAt, part, bodyAt}
 use Rattle.sheet.specs.Model.{Move, Model, noMove, machineCount, moveCount, moveAt, moveOf, withMachine, withMove}
 use Rattle.sheet.specs.Faults.{faultsOf, endFaults}
 use Rattle.sheet.specs.Valid.{Valid}
 use Rattle.sheet.specs.Parse.{Parsed, nothing, extended, ended, turnOf, parse}
-use Rattle.sheet.proofs.Records.{whole-at, part-length}
+use Rattle.sheet.proofs.Records.{whole-at, body-part, part-length}
 use Rattle.sheet.proofs.Turns.{goes-on, ends, turn-whole}
 use Rattle.sheet.proofs.Stops.{Stop, at-end, Stopped, Keeps, reading-stops}
 use Rattle.sheet.proofs.Fits.{MovePasses}
 use Rattle.sheet.proofs.Counts.{one-more}
 use Rattle.sheet.proofs.Valid.{valid-empty, valid-turn, machine-or-move}
 
--- a move stands in a file: its body begins at a place, and the body length is the word four bytes before
-pub record Stands (s : List ℕ) (start : ℕ) (v : Move) : Type 0 where
-  pub len : ℕ
-  pub behind : 4 ≤ start
-  pub length-word : len ≡ word s (start - 4)
-  pub within : start + len ≤ length s
-  pub long : 4 ≤ len
-  pub short : len ≤ 20
-  pub even : len % 2 ≡ 0
-  pub read : v ≡ moveOf (part s start len)
+-- a move stands in a file: it is what the body of the record at a place writes
+pub record Stands (s : List ℕ) (at : ℕ) (v : Move) : Type 0 where
+  pub long : 4 ≤ length (bodyAt s at)
+  pub short : length (bodyAt s at) ≤ 20
+  pub even : length (bodyAt s at) % 2 ≡ 0
+  pub read : moveOf (bodyAt s at) ≡ v
 
--- each move of what has been read stands where its body is said to begin
+-- each move of what has been read stands where its record is said to begin
 pub record Placed (s : List ℕ) (d : Parsed) : Type 0 where
-  pub paired : length (d .bodies) ≡ moveCount (d .model)
-  pub stands : (v : ℕ) → v < moveCount (d .model) → Stands s (getD (d .bodies) v 0) (moveAt (d .model) v)
+  pub paired : length (d .places) ≡ moveCount (d .model)
+  pub stands : (v : ℕ) → v < moveCount (d .model) → Stands s (getD (d .places) v 0) (moveAt (d .model) v)
 
-module _ (s : List ℕ) (d : Parsed) (start : ℕ) (body : List ℕ) where
-  pub placed-machine : Placed s d → Placed s (extended d 1 start body)
+module _ (s : List ℕ) (d : Parsed) (at : ℕ) (body : List ℕ) where
+  pub placed-machine : Placed s d → Placed s (extended d 1 at body)
   unfolding extended withMachine
   placed-machine p = record { paired = p .paired; stands = p .stands }
 
-  pub placed-move : Placed s d → Stands s start (moveOf body) → Placed s (extended d 2 start body)
+  pub placed-move : Placed s d → Stands s at (moveOf body) → Placed s (extended d 2 at body)
   unfolding extended withMove
   placed-move p new =
       let m = d .model .moves in
       let e = p .paired in
       record {
-        paired = omega (arith, length-snoc (d .bodies) start, length-snoc m (moveOf body));
+        paired = omega (arith, length-snoc (d .places) at, length-snoc m (moveOf body));
         stands =
-            snoc-each m (moveOf body) noMove (λ v x. Stands s (getD (d .bodies ++ (start ∷ [])) v 0) x)
-            (λ v h. rw (List·getD-append (d .bodies) (start ∷ []) 0 v (omega arith)) (p .stands v h))
-            (rw (getD-at (d .bodies) start [] 0 (length m) e) new);
+            snoc-each m (moveOf body) noMove (λ v x. Stands s (getD (d .places ++ (at ∷ [])) v 0) x)
+            (λ v h. rw (List·getD-append (d .places) (at ∷ []) 0 v (omega arith)) (p .stands v h))
+            (rw (getD-at (d .places) at [] 0 (length m) e) new);
       }
 
 -- what holds between two records
@@ -79,20 +75,10 @@ sound-start s =
     }
 
 pub move-stands : (s : List ℕ) (at : ℕ) {kind start len : ℕ} → recordAt s at ≡ Whole kind start len
-    → (m : Model) → MovePasses m (part s start len) → Stands s start (moveOf (part s start len))
-move-stands s at {kind} {start} {len} w m c =
-    let h = whole-at s at w in
-    let e = part-length s start len (h .within) in
-    record {
-      len = len;
-      behind = omega arith;
-      length-word = h .length-word ∙ ap (word s) (omega arith);
-      within = h .within;
-      long = omega arith;
-      short = omega arith;
-      even = ap (λ n. n % 2) (sym e) ∙ c .even;
-      read = refl;
-    }
+    → (m : Model) → MovePasses m (part s start len) → Stands s at (moveOf (part s start len))
+move-stands s at w m c =
+    let b = body-part s at (sym w) refl in
+    record { long = rw (← b) (c .long); short = rw (← b) (c .short); even = rw (← b) (c .even); read = rw (← b) }
 
 pub sound-turn : (s : List ℕ) → Keeps s (Sound s)
 sound-turn s at d kind start len next e w q h =
@@ -109,8 +95,8 @@ sound-turn s at d kind start len next e w q h =
       placed =
           rw (← g .reads)
           (⊎-elim
-          (λ c. rw (c .0) (placed-machine s d start body (h .placed)))
-          (λ c. rw (c .0) (placed-move s d start body (h .placed) (move-stands s at w (d .model) (c .1))))
+          (λ c. rw (c .0) (placed-machine s d at body (h .placed)))
+          (λ c. rw (c .0) (placed-move s d at body (h .placed) (move-stands s at w (d .model) (c .1))))
           (machine-or-move (d .model) at kind body (g .clear) (g .no-end)));
     }
 
@@ -167,8 +153,8 @@ module _ (s : List ℕ) {d : Parsed} (q : parse s ≡ given d) where
   pub parse-has-machine : 0 < machineCount (d .model)
   parse-has-machine = parse-read .has-machine
 
-  pub parse-bodies : length (d .bodies) ≡ moveCount (d .model)
-  parse-bodies = parse-read .placed .paired
+  pub parse-places : length (d .places) ≡ moveCount (d .model)
+  parse-places = parse-read .placed .paired
 
-  pub parse-stands : (v : ℕ) → v < moveCount (d .model) → Stands s (getD (d .bodies) v 0) (moveAt (d .model) v)
+  pub parse-stands : (v : ℕ) → v < moveCount (d .model) → Stands s (getD (d .places) v 0) (moveAt (d .model) v)
   parse-stands = parse-read .placed .stands

@@ -1,7 +1,7 @@
 -- The laws of bytes, `recordAt`, `bodyAt` and `part`: a whole record lies within the file.
 -- Assumes nothing.
 use Prim.Native.Nat.{ℕ, _+_, _-_, _≤_, _<_}
-use mathlib.Core.Path.{_≡_, sym, ap, _∙_}
+use mathlib.Core.Path.{_≡_, refl, sym, ap, _∙_}
 use mathlib.Core.List.{List, []}
 use native.Mathlib.Nat.{add-sub-cancel-left}
 use native.Mathlib.Omega.{arith}
@@ -97,3 +97,23 @@ part-length s start len h = simp (length-take, length-drop) (omega arith)
 pub part-byte : (s : List ℕ) (start len i : ℕ) → i < len → byte (part s start len) i ≡ byte s (start + i)
 unfolding part
 part-byte s start len i h = rw (getD-take, getD-drop)
+
+-- a body that is not empty stands behind the four bytes that tell its length
+module _ (s : List ℕ) (at : ℕ) where
+  body-of : (r : Record) → recordAt s at ≡ r → 0 < length (bodyAt s at)
+      → (bodyAt s at ≡ part s (at + 4) (word s at)) × (at + 4 + word s at ≤ length s)
+  body-of (Whole kind start len) e h =
+      let w = whole-at s at e in
+      (sym (body-part s at (sym e) refl) ∙ rw (w .starts, w .length-word), omega (arith, w .starts, w .length-word, w .within))
+  body-of Cut e h = absurd (let f : ⊥ = omega (arith, ap length (body-none s at (sym e) refl)) in f)
+
+  module _ (some : 0 < length (bodyAt s at)) where
+    pub body-word : word s at ≡ length (bodyAt s at)
+    body-word =
+        let b = body-of (recordAt s at) refl some in
+        sym (ap length (b .0) ∙ part-length s (at + 4) (word s at) (b .1))
+
+    pub body-byte : (n : ℕ) → n < length (bodyAt s at) → byte s (at + 4 + n) ≡ byte (bodyAt s at) n
+    body-byte n h =
+        let b = body-of (recordAt s at) refl some in
+        sym (ap (λ l. byte l n) (b .0) ∙ part-byte s (at + 4) (word s at) n (omega (arith, body-word)))

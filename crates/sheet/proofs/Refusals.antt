@@ -72,7 +72,7 @@ module _ {s : List ℕ} {at : ℕ} {m : Model} (c : Reached s at m) where
 
     -- a right machine or move leads on
     pub leads-on : (Kind s at 3 → ⊥) → {e : Model} → records e ≡ records m + 1
-        → extended d kind (at + 4) (part s (at + 4) len) .model ≡ e → Reached s (at + 4 + len) e
+        → extended d kind at (part s (at + 4) len) .model ≡ e → Reached s (at + 4 + len) e
     leads-on more {e} one reads =
         let q = turn-passes s at d kind (at + 4) len clear more in
         record {
@@ -80,7 +80,7 @@ module _ {s : List ℕ} {at : ℕ} {m : Model} (c : Reached s at m) where
           comes =
               comes-moved
               (record {
-                before = extended d kind (at + 4) (part s (at + 4) len);
+                before = extended d kind at (part s (at + 4) len);
                 has-read = reads;
                 goes = c .comes .goes ∙ parse-next s at d _ turns-left (whole-here s at (r .whole)) q;
               })
@@ -107,13 +107,13 @@ module _ {s : List ℕ} {at : ℕ} {m : Model} (c : Reached s at m) where
 
 module _ (s : List ℕ) where
   machine-read : (at : ℕ) (d : Parsed) {m : Model} → d .model ≡ m → Kind s at 1 → word s at ≡ 2
-      → extended d (word s (at + 2)) (at + 4) (part s (at + 4) (word s at)) .model
+      → extended d (word s (at + 2)) at (part s (at + 4) (word s at)) .model
       ≡ withMachine m (byte s (at + 4)) (byte s (at + 5))
   unfolding extended
   machine-read at d e k two = rw (k, e, machine-bytes s at two .0, machine-bytes s at two .1)
 
   move-read : (at : ℕ) (d : Parsed) {m : Model} → d .model ≡ m → Kind s at 2
-      → extended d (word s (at + 2)) (at + 4) (part s (at + 4) (word s at)) .model ≡ withMove m (written s at)
+      → extended d (word s (at + 2)) at (part s (at + 4) (word s at)) .model ≡ withMove m (written s at)
   unfolding extended
   move-read at d e k = rw (k, e)
 

@@ -99,7 +99,7 @@ module _ {s : List ℕ} {sheet : Sheet} {lives tops pairs commands : List ℕ} {
           moves = sheet .moves;
           modes = set (sheet .modes) (sheet .machines) (byte body 0);
           live = sheet .live;
-          bodies = sheet .bodies;
+          places = sheet .places;
         }) (set lives (sheet .machines) (byte body 1)) (set tops (sheet .machines) top) pairs commands (start + len)
     unfolding withMachine
     scan-machine p =
@@ -108,8 +108,8 @@ module _ {s : List ℕ} {sheet : Sheet} {lives tops pairs commands : List ℕ} {
           parsed = machineRead d (byte body 0) (byte body 1);
           held = held-machine m (h .held) body machine p;
           modes-in = fills 32 (m .modes) (byte body 0) (h .modes-in) (h .held .counted .machines-are) machine-room;
-          bodies-in = h .bodies-in;
-          bodies-are = h .bodies-are;
+          places-in = h .places-in;
+          places-are = h .places-are;
           keyed = h .keyed;
           near = omega (arith, ends-at, machine .two-bytes, h .near);
           bytes = h .bytes;
@@ -122,7 +122,7 @@ module _ {s : List ℕ} {sheet : Sheet} {lives tops pairs commands : List ℕ} {
     move = move-fits s at d e w its-body found q k
 
     turns-move : turnOf s at d (recordAt s at)
-        ≡ unless (repeated (d .model) at (moveOf body)) (given (more (start + len) (moveRead d start (moveOf body))))
+        ≡ unless (repeated (d .model) at (moveOf body)) (given (more (start + len) (moveRead d at (moveOf body))))
     turns-move = turn-move s at d e w its-body found q k
 
     pub move-bytes : 4 ≤ length body
@@ -134,7 +134,7 @@ module _ {s : List ℕ} {sheet : Sheet} {lives tops pairs commands : List ℕ} {
     pub move-less : 283 - (sheet .machines + (sheet .moves + 1)) < left s h
     move-less = omega (arith, move-room, one-left s h)
 
-    pub place-fits : Fits w16 start
+    pub place-fits : Fits w16 at
     place-fits = omega (arith, begins-at, h .near, h .held .few-machines, h .held .few-moves)
 
     -- by whether an earlier one has its key
@@ -168,17 +168,17 @@ module _ {s : List ℕ} {sheet : Sheet} {lives tops pairs commands : List ℕ} {
             moves = sheet .moves + 1;
             modes = sheet .modes;
             live = sheet .live;
-            bodies = set (sheet .bodies) (sheet .moves) start;
+            places = set (sheet .places) (sheet .moves) at;
           }) lives tops pairs' commands' (start + len)
       unfolding withMove
       scan-move n =
           let v = moveOf body in
           record {
-            parsed = moveRead d start v;
+            parsed = moveRead d at v;
             held = held-move (d .model) (h .held) v move-room;
             modes-in = h .modes-in;
-            bodies-in = fills 250 (d .bodies) start (h .bodies-in) (h .bodies-are) move-room;
-            bodies-are = one-longer (d .bodies) start (h .bodies-are);
+            places-in = fills 250 (d .places) at (h .places-in) (h .places-are) move-room;
+            places-are = one-longer (d .places) at (h .places-are);
             keyed = keyed-more _ (h .keyed) v small a (not-false new n);
             near = omega (arith, ends-at, move .short, h .near);
             bytes = h .bytes;

@@ -30,7 +30,7 @@ withLive sheet lives =
       moves = sheet .moves;
       modes = sheet .modes;
       live = lives;
-      bodies = sheet .bodies;
+      places = sheet .places;
     }
 
 -- some records have been read: the index and the arrays hold them, and what is left of the file decides the reply
@@ -38,8 +38,8 @@ pub record Scanned (s : List ℕ) (sheet : Sheet) (lives tops pairs commands : L
   pub parsed : Parsed
   pub held : Held (parsed .model) (record { machines = sheet .machines; moves = sheet .moves }) tops lives
   pub modes-in : sheet .modes ≡ pad 32 (parsed .model .modes)
-  pub bodies-in : sheet .bodies ≡ pad 250 (parsed .bodies)
-  pub bodies-are : length (parsed .bodies) ≡ sheet .moves
+  pub places-in : sheet .places ≡ pad 250 (parsed .places)
+  pub places-are : length (parsed .places) ≡ sheet .moves
   pub keyed : Keyed (parsed .model .moves) pairs commands
   -- so where a body begins fits 16 bits
   pub near : at ≤ 6 * sheet .machines + 24 * sheet .moves
@@ -54,8 +54,8 @@ scan-start s b e =
       parsed = nothing;
       held = held-nothing;
       modes-in = refl;
-      bodies-in = refl;
-      bodies-are = refl;
+      places-in = refl;
+      places-are = refl;
       keyed = keyed-nothing;
       near = omega arith;
       bytes = b;
@@ -77,7 +77,7 @@ module _ (s : List ℕ) {sheet : Sheet} {lives tops pairs commands : List ℕ} {
   unfolding indexOf
   index-is =
       let n = h .held .counted in
-      rw (n .machines-are, n .moves-are, ← h .modes-in, ← h .held .live-in, ← h .bodies-in)
+      rw (n .machines-are, n .moves-are, ← h .modes-in, ← h .held .live-in, ← h .places-in)
 
   -- how many records there may yet be
   abbrev pub left : ℕ

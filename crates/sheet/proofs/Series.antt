@@ -35,20 +35,20 @@ module _ {s : List ℕ} {left at : ℕ} {m : Model} (c : Comes s left at m) (som
   -- a record that passes
   pub comes-next : (kind : ℕ) (body : List ℕ) {e : Model} → Stands s at (recordOf kind body) → length body < 65536
       → kind < 65536 → (kind ≡ 3 → ⊥) → Clear (faultsOf m at kind body)
-      → ((d : Parsed) (start : ℕ) → d .model ≡ m → extended d kind start body .model ≡ e)
+      → ((d : Parsed) → d .model ≡ m → extended d kind at body .model ≡ e)
       → Comes s (left - 1) (at + 4 + length body) e
   comes-next kind body w short small no-end clear leads =
       let d = c .before in
       let b = body-read kind body w in
       let k : Clear (faultsOf (d .model) at kind (part s (at + 4) (length body))) = rw (c .has-read, b) clear in
       record {
-        before = extended d kind (at + 4) body;
-        has-read = leads d (at + 4) (c .has-read);
+        before = extended d kind at body;
+        has-read = leads d (c .has-read);
         goes =
             c .goes
             ∙ parse-next s at d left some (record-read kind body w short small)
             (turn-passes s at d kind (at + 4) (length body) k no-end
-            ∙ ap (λ x. given (more (at + 4 + length body) (extended d kind (at + 4) x))) b);
+            ∙ ap (λ x. given (more (at + 4 + length body) (extended d kind at x))) b);
       }
 
   -- the end record, nothing behind it
@@ -68,8 +68,8 @@ module _ {s : List ℕ} {left at : ℕ} {m : Model} (c : Comes s left at m) (som
 pub record Series (kind count : ℕ) (body : ℕ → List ℕ) (model : ℕ → Model) : Type 0 where
   pub short : (k : ℕ) → k < count → length (body k) < 65536
   pub clear : (k at : ℕ) → k < count → Clear (faultsOf (model k) at kind (body k))
-  pub leads : (k : ℕ) (d : Parsed) (start : ℕ) → k < count → d .model ≡ model k
-      → extended d kind start (body k) .model ≡ model (suc k)
+  pub leads : (k : ℕ) (d : Parsed) (at : ℕ) → k < count → d .model ≡ model k
+      → extended d kind at (body k) .model ≡ model (suc k)
 
 module _ {kind count : ℕ} {body : ℕ → List ℕ} {model : ℕ → Model} (ok : Series kind count body model)
     (small : kind < 65536) (no-end : kind ≡ 3 → ⊥) where
@@ -93,5 +93,5 @@ module _ {kind count : ℕ} {body : ℕ → List ℕ} {model : ℕ → Model} (o
       (ap (λ i. at + i) (sym (length-flatMap (λ i. recordOf kind (body i)) (upTo k)))) in
       comes-moved
       (comes-next old (omega arith) kind (body k) here (ok .short k h) small no-end (ok .clear k _ h)
-      (λ d start e. ok .leads k d start h e))
+      (λ d e. ok .leads k d _ h e))
       (omega arith) (omega (arith, length-more k))

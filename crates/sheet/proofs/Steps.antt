@@ -30,10 +30,10 @@ use Rattle.sheet.proofs.Judging.{own-machine, own-move, own-end, own-un
 
 -- what has been read, and a machine or a move more
 abbrev pub machineRead : Parsed → ℕ → ℕ → Parsed
-machineRead d modes live = record { model = withMachine (d .model) modes live; bodies = d .bodies }
+machineRead d modes live = record { model = withMachine (d .model) modes live; places = d .places }
 
 abbrev pub moveRead : Parsed → ℕ → Move → Parsed
-moveRead d start v = record { model = withMove (d .model) v; bodies = d .bodies ++ (start ∷ []) }
+moveRead d at v = record { model = withMove (d .model) v; places = d .places ++ (at ∷ []) }
 
 -- 8 for a command that an earlier move has, which is judged after a move's own causes
 abbrev pub repeated : Model → ℕ → Move → List Fault
@@ -80,7 +80,7 @@ module _ (s : List ℕ) (at : ℕ) (d : Parsed) {r : Record} {kind start len : �
       ≡ unless (faultsOf (d .model) at kind body)
       (cond (eqb kind 3)
       (unless (fault 3 (start + len) (ltb (start + len) (length s)) ∷ []) (given (ended d)))
-      (given (more (start + len) (extended d kind start body))))
+      (given (more (start + len) (extended d kind at body))))
   unfolding turnAt
   turn-is = ap (turnOf s at d) (sym e ∙ w) ∙ rw (body-part s at e w, ← b)
 
@@ -130,7 +130,7 @@ module _ (s : List ℕ) (at : ℕ) (d : Parsed) {r : Record} {kind start len : �
         move-fits = own-fits (d .model) at body clear-move
 
         pub turn-move : turnOf s at d (recordAt s at)
-            ≡ unless (repeated (d .model) at (moveOf body)) (given (more (start + len) (moveRead d start (moveOf body))))
+            ≡ unless (repeated (d .model) at (moveOf body)) (given (more (start + len) (moveRead d at (moveOf body))))
         unfolding extended
         turn-move =
             turn-is ∙ move-first k _ ∙ unless-clear (ownMoveFaults (d .model) at body) _ clear-move ∙ rw k

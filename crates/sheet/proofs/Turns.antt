@@ -83,7 +83,7 @@ module _ (s : List ℕ) (at : ℕ) (d : Parsed) (kind start len : ℕ) where
     pub clear : Clear faults
     pub no-end : eqb kind 3 ≡ false
     pub goes-behind : start + len ≡ next
-    pub reads : extended d kind start (part s start len) ≡ e
+    pub reads : extended d kind at (part s start len) ≡ e
 
   pub record Ends (e : Parsed) : Type 0 where
     pub clear : Clear faults
@@ -137,7 +137,7 @@ module _ (s : List ℕ) (at : ℕ) (d : Parsed) (kind start len : ℕ) where
 
   module _ (c : Clear faults) where
     pub turn-passes : (kind ≡ 3 → ⊥)
-        → turnAt s at d kind start len ≡ given (more (start + len) (extended d kind start (part s start len)))
+        → turnAt s at d kind start len ≡ given (more (start + len) (extended d kind at (part s start len)))
     unfolding turnAt
     turn-passes h = unless-clear faults _ c ∙ rw (ne-eqb kind 3 h)
 

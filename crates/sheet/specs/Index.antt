@@ -21,7 +21,7 @@ indexOf d =
       moves = moveCount (d .model);
       modes = pad 32 (d .model .modes);
       live = pad 32 (d .model .live);
-      bodies = pad 250 (d .bodies);
+      places = pad 250 (d .places);
     }
 
 -- what a verdict says in document 01's terms
@@ -43,17 +43,17 @@ sheetOf (given d) = indexOf d
 sheetOf (refused number place) = indexOf nothing
 
 -- The answers of an index over the file that was read. A machine past the count has no modes; a move past the count has the
--- offset 0, and what is read there says nothing.
+-- place 0, and what is read there says nothing.
 abbrev pub modesIn : Sheet → ℕ → ℕ
 modesIn x i = getD (x .modes) i 0
 
 abbrev pub liveIn : Sheet → ℕ → ℕ
 liveIn x i = getD (x .live) i 0
 
--- byte n of the body of move v
+-- byte n of the body of move v, behind the four bytes of its header
 abbrev pub moveByte : List ℕ → Sheet → ℕ → ℕ → ℕ
-moveByte s x v n = byte s (getD (x .bodies) v 0 + n)
+moveByte s x v n = byte s (getD (x .places) v 0 + 4 + n)
 
--- the number of needs of move v, from the body length four bytes before its body
+-- the number of needs of move v, from the body length that its record begins with
 unfoldable pub guardCountIn : List ℕ → Sheet → ℕ → ℕ
-guardCountIn s x v = (word s (getD (x .bodies) v 0 - 4) - 4) / 2
+guardCountIn s x v = (word s (getD (x .places) v 0) - 4) / 2

@@ -11,20 +11,20 @@ use Rattle.sheet.specs.Record.{byte, recordAt, part}
 use Rattle.sheet.specs.Model.{Model, emptyModel, moveOf, withMachine, withMove}
 use Rattle.sheet.specs.Faults.{faultsOf}
 
--- what has been read: the model, and where the body of each move begins
+-- what has been read: the model, and where the record of each move begins
 pub record Parsed : Type 0 where
   pub model : Model
-  pub bodies : List ℕ
+  pub places : List ℕ
 
 abbrev pub nothing : Parsed
-nothing = record { model = emptyModel; bodies = [] }
+nothing = record { model = emptyModel; places = [] }
 
 -- what has been read, with one more machine or move
 unfoldable pub extended : Parsed → ℕ → ℕ → List ℕ → Parsed
-extended d kind start body =
+extended d kind at body =
     cond (eqb kind 1)
-    (record { model = withMachine (d .model) (byte body 0) (byte body 1); bodies = d .bodies })
-    (record { model = withMove (d .model) (moveOf body); bodies = d .bodies ++ (start ∷ []) })
+    (record { model = withMachine (d .model) (byte body 0) (byte body 1); places = d .places })
+    (record { model = withMove (d .model) (moveOf body); places = d .places ++ (at ∷ []) })
 
 -- where one record leads: to the next one, or to the end
 pub data Turn : Type 0 where
@@ -37,7 +37,7 @@ turnAt s at d kind start len =
     unless (faultsOf (d .model) at kind (part s start len))
     (cond (eqb kind 3)
     (unless (fault 3 (start + len) (ltb (start + len) (length s)) ∷ []) (given (ended d)))
-    (given (more (start + len) (extended d kind start (part s start len)))))
+    (given (more (start + len) (extended d kind at (part s start len)))))
 
 abbrev pub turnOf : List ℕ → ℕ → Parsed → Record → Reply Turn
 turnOf s at d (Whole kind start len) = turnAt s at d kind start len

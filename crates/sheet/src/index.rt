@@ -1,11 +1,13 @@
-// The index of a sheet: how many machines and moves, each machine's modes, and where each move's body begins.
+// The index of a sheet: how many machines and moves, each machine's modes, and where each move's record begins.
+use crate::record::body;
 use crate::record::byte_at;
 use crate::record::wide;
 use crate::record::word_at;
 use crate::refusal::Verdict;
 ghost use mathlib.Core.Path.{_≡_};
 ghost use Prim.Native.Nat.{_+_, _-_, _*_, _<_};
-ghost use lib.ListN.{getD};
+ghost use lib.ListN.{length, getD};
+ghost use Rattle.sheet.specs.Record.{bodyAt};
 ghost use Rattle.sheet.specs.Parse.{nothing};
 ghost use Rattle.sheet.specs.Index.{indexOf, modesIn, liveIn, moveByte, guardCountIn};
 
@@ -36,7 +38,7 @@ pub struct Sheet {
     pub moves: usize,
     pub modes: [u8; Sheet::MACHINES],
     pub live: [u8; Sheet::MACHINES],
-    pub bodies: [u16; Sheet::MOVES],
+    pub places: [u16; Sheet::MOVES],
 }
 
 // The reply of reading a sheet. A refused sheet has the empty index.
@@ -61,7 +63,7 @@ impl Sheet {
             moves: 0,
             modes: [0u8; Sheet::MACHINES],
             live: [0u8; Sheet::MACHINES],
-            bodies: [0u16; Sheet::MOVES],
+            places: [0u16; Sheet::MOVES],
         }
     }
 
@@ -87,15 +89,15 @@ impl Sheet {
         self.live[i]
     }
 
-    // Where a move's body begins.
+    // Where a move's record begins.
     fn place(self, v: Move) -> usize
-        ensures { λ r. ⌜ (r ≡ getD (self .bodies) (v .0) 0) × (r < 65536) ⌝ }
+        ensures { λ r. ⌜ (r ≡ getD (self .places) (v .0) 0) × (r < 65536) ⌝ }
     {
         let i = wide(v.0);
         if Sheet::MOVES <= i {
             return 0;
         }
-        self.bodies[i] as usize
+        self.places[i] as usize
     }
 
     // Byte n of a move's body, in the file that was read.
@@ -103,7 +105,7 @@ impl Sheet {
         requires { ⌜ n < 65536 ⌝ }
         ensures { λ r. ⌜ r ≡ moveByte (now (s .entry)) self (v .0) n ⌝ }
     {
-        byte_at(s, self.place(v) + n)
+        byte_at(s, self.place(v) + 4 + n)
     }
 
     // The machine of a move.
@@ -138,7 +140,7 @@ impl Sheet {
     pub fn guard_count(self, s: &[u8], v: Move) -> usize
         ensures { λ r. ⌜ r ≡ guardCountIn (now (s .entry)) self (v .0) ⌝ }
     {
-        less_four(word_at(s, less_four(self.place(v)))) / 2
+        less_four(word_at(s, self.place(v))) / 2
     }
 
     // The machine of a move's need n.
@@ -154,6 +156,14 @@ impl Sheet {
     {
         self.move_byte(s, v, 5 + 2 * wide(n))
     }
+}
+
+// The body of a move, by where the records of the moves begin.
+pub fn move_body<'a>(file: &'a [u8], places: &[u16], v: usize) -> &'a [u8]
+    requires { ⌜ v < length (now places) ⌝ }
+    ensures { λ r. ⌜ now r ≡ bodyAt (now (file .entry)) (getD (now (places .entry)) v 0) ⌝ }
+{
+    body(file, places[v] as usize)
 }
 
 // Four less, or 0.

@@ -66,7 +66,7 @@ pub fn read(s: &[u8]) -> Reading
                 if !added(&mut pairs[..], &mut commands[..], body) {
                     return refusal(Cause::BadCommand, at);
                 }
-                sheet.bodies[moves] = start as u16;
+                sheet.places[moves] = at as u16;
                 sheet.moves = moves + 1;
                 at = end;
             }

@@ -178,19 +178,19 @@ pub record Posed (m : Model) (counts : ℕ → Bool) (plan state : List ℕ) (go
   pub stranding : StrandedAbove m plan counts state goal unmet lost
 
 -- a sheet's moves beside it, and of the groups upstream of an unmet one if every move counts, what is allowed of each
-pub record Uncertain (m : Model) (file plan state : List ℕ) (goal : Masks) (bodies starts facts zeros numbers wanted : List ℕ)
+pub record Uncertain (m : Model) (file plan state : List ℕ) (goal : Masks) (places starts facts zeros numbers wanted : List ℕ)
     (unmet failed above : ℕ) : Type 0 where
   pub leaves : Leaves m plan state goal starts facts zeros numbers wanted unmet
-  pub listed : Listed m file bodies
+  pub listed : Listed m file places
   pub not-live : FailedSet m plan state failed
   pub upper : UpstreamOfSome m plan everyMove unmet above
   pub allows-above : AllowedSets m plan goal above wanted
 
 -- a question, with what its goal allows each machine and the groups that it leaves unmet
 pub record KeptGoal (m : Model) (file plan state : List ℕ) (goal : Masks)
-    (bodies starts facts zeros named machines live masks : List ℕ) (left : ℕ) : Type 0 where
+    (places starts facts zeros named machines live masks : List ℕ) (left : ℕ) : Type 0 where
   pub kept : Kept m plan state facts zeros starts
-  pub listed : Listed m file bodies
+  pub listed : Listed m file places
   pub naming : NamedBy m plan everyMove named
   pub members : MemberSets (groupsIn m plan) machines
   pub lives : live ≡ pad 32 (m .live)

@@ -4,23 +4,16 @@ use Rattle.decimal.proofs.Short.{no-digit-past}
 use borrow.Author.Needs.{needs}
 use Rattle.decimal.proofs.digit_at.Statement.{statement}
 use Rattle.decimal.proofs.digit_at.Tie as tie
-use Rattle.decimal.proofs.digit_at.Reads as reads
-use Rattle.decimal.proofs.digit_at.Lts as lts
-use Rattle.decimal.proofs.is_digit.Reads as is-digit-reads
 
--- src/lib.rt:80:33
 shared-slice-read-is-digit : tie.Need-shared-slice-read-is-digit
 shared-slice-read-is-digit c = search needs
 
--- src/lib.rt:80:24
 is-digit-requires : tie.Need-is-digit-requires
 is-digit-requires c κs = search needs
 
--- src/lib.rt:77:1
 returns : tie.Need-returns
 returns c = search needs
 
--- src/lib.rt:77:1
 returns-2 : tie.Need-returns-2
 returns-2 c = le-ltb _ _ (c .if1 .left) ∙ no-digit-past (c .before .before .args .text .now) (c .if1 .left)
 

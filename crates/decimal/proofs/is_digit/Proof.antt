@@ -3,15 +3,11 @@ use borrow.Author.Tests.{le-leb, lt-leb}
 use Rattle.decimal.specs.Decimal.{isDigit}
 use Rattle.decimal.proofs.is_digit.Statement.{statement}
 use Rattle.decimal.proofs.is_digit.Tie as tie
-use Rattle.decimal.proofs.is_digit.Reads as reads
-use Rattle.decimal.proofs.is_digit.Lts as lts
 
--- src/lib.rt:46:1
 returns : tie.Need-returns
 unfolding isDigit
 returns c = rw (le-leb _ _ (c .if1 .taken)) refl
 
--- src/lib.rt:46:1
 returns-2 : tie.Need-returns-2
 unfolding isDigit
 returns-2 c = rw (lt-leb _ _ (c .if1 .left)) refl

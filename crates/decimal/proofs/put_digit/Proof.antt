@@ -3,30 +3,22 @@ use Rattle.decimal.proofs.Putting.{put-byte}
 use borrow.Author.Needs.{needs}
 use Rattle.decimal.proofs.put_digit.Statement.{statement}
 use Rattle.decimal.proofs.put_digit.Tie as tie
-use Rattle.decimal.proofs.put_digit.Reads as reads
-use Rattle.decimal.proofs.put_digit.Lts as lts
 
--- src/lib.rt:16:20
 cast-out : tie.Need-cast-out
 cast-out c = search needs
 
--- src/lib.rt:16:15
 add-out : tie.Need-add-out
 add-out c = search needs
 
--- src/lib.rt:16:5
 slice-write-out : tie.Need-slice-write-out
 slice-write-out c = search needs
 
--- src/lib.rt:17:5
 add-result : tie.Need-add-result
 add-result c = search needs
 
--- src/lib.rt:11:1
 same-length : tie.Need-same-length
 same-length c = search needs
 
--- src/lib.rt:11:1
 returns : tie.Need-returns
 unfolding digit
 returns c = put-byte _ _ _ (c .pre)

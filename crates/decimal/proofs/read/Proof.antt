@@ -8,36 +8,25 @@ use Rattle.decimal.proofs.Short.{digit-inside, none-read, zero-read}
 use borrow.Author.Needs.{needs}
 use Rattle.decimal.proofs.read.Statement.{statement}
 use Rattle.decimal.proofs.read.Tie as tie
-use Rattle.decimal.proofs.read.Reads as reads
-use Rattle.decimal.proofs.read.Lts as lts
-use Rattle.decimal.proofs.digit_at.Reads as digit-at-reads
-use Rattle.decimal.proofs.read_on.Reads as read-on-reads
-use Rattle.decimal.proofs.value_at.Reads as value-at-reads
 
--- src/lib.rt:113:9
 digit-at-requires : tie.Need-digit-at-requires
 digit-at-requires c κs = search needs
 
--- src/lib.rt:114:9
 returns : tie.Need-returns
 returns c = let start = c .before .before .before in
     none-read (start .args .text .now) (start .args .at) (sym (c .before .digit-at .ensures) ∙ not-true _ (c .if1 .taken))
 
--- src/lib.rt:116:9
 value-at-requires : tie.Need-value-at-requires
 value-at-requires c κs = sym (c .before .digit-at .ensures) ∙ not-false _ (c .if1 .left)
 
--- src/lib.rt:117:37
 add-digit-at : tie.Need-add-digit-at
 add-digit-at c = let start = c .before .before .before .before .before in
     let first = sym (c .before .before .before .digit-at .ensures) ∙ not-false _ (c .before .before .if1 .left) in
     omega (arith, digit-inside (start .args .text .now) (start .args .at) first, start .good .0 .0)
 
--- src/lib.rt:117:22
 digit-at-requires-2 : tie.Need-digit-at-requires-2
 digit-at-requires-2 c κs = search needs
 
--- src/lib.rt:118:9
 returns-2 : tie.Need-returns-2
 returns-2 c = let start = c .before .before .before .before .before .before .before in
     let first = sym (c .before .before .before .before .before .digit-at .ensures) ∙ not-false _
@@ -46,7 +35,6 @@ returns-2 c = let start = c .before .before .before .before .before .before .bef
     (omega (arith, c .before .before .before .value-at .ensures .0, c .before .before .if2 .taken, digit-within _ first .0))
     (sym (c .before .digit-at2 .ensures) ∙ c .if3 .taken)
 
--- src/lib.rt:120:5
 read-on-requires : tie.Need-read-on-requires
 unfolding digit
 read-on-requires c κs = let start = c .before .before .before .before .before in
@@ -60,7 +48,6 @@ read-on-requires c κs = let start = c .before .before .before .before .before i
           (λ w. sym (w .1 .ensures) ∙ w .2 .left) (λ w. absurd (w .left z)) (c .if2 .came);
     }
 
--- src/lib.rt:110:1
 returns-3 : tie.Need-returns-3
 returns-3 c = search needs
 

@@ -5,24 +5,17 @@ use Rattle.decimal.proofs.Short.{digit-inside}
 use borrow.Author.Needs.{needs}
 use Rattle.decimal.proofs.value_at.Statement.{statement}
 use Rattle.decimal.proofs.value_at.Tie as tie
-use Rattle.decimal.proofs.value_at.Reads as reads
-use Rattle.decimal.proofs.value_at.Lts as lts
-use Rattle.sheet.proofs.record.wide.Reads as wide-reads
 
--- src/lib.rt:125:10
 shared-slice-read-wide : tie.Need-shared-slice-read-wide
 shared-slice-read-wide c =
     digit-inside (c .before .before .args .text .now) (c .before .before .args .at) (c .before .before .pre)
 
--- src/lib.rt:125:5
 wide-requires : tie.Need-wide-requires
 wide-requires c κs = search needs
 
--- src/lib.rt:125:5
 sub-result : tie.Need-sub-result
 sub-result c = omega (arith, c .wide .ensures .0, digit-within _ (c .before .before .before .pre) .0)
 
--- src/lib.rt:121:1
 returns : tie.Need-returns
 returns c = (
   rw (c .wide .ensures .0) refl,

@@ -4,14 +4,10 @@ use lib.ListN.{length}
 use Rattle.decimal.proofs.Putting.{one-digit, two-digits-are}
 use Rattle.decimal.proofs.width.Statement.{statement}
 use Rattle.decimal.proofs.width.Tie as tie
-use Rattle.decimal.proofs.width.Reads as reads
-use Rattle.decimal.proofs.width.Lts as lts
 
--- src/lib.rt:60:9
 returns : tie.Need-returns
 returns c = (sym (ap length (one-digit _ (c .if1 .taken))), omega arith)
 
--- src/lib.rt:55:1
 returns-2 : tie.Need-returns-2
 returns-2 c = (sym (ap length (two-digits-are _ (c .if1 .left) (c .before .pre))), omega arith)
 

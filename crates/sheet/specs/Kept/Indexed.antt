@@ -1,5 +1,5 @@
 -- What functions over an index rest on: that it is the index of the file beside it.
-use Prim.Native.Nat.{ℕ, _-_, _≤_, _<_}
+use Prim.Native.Nat.{ℕ, _≤_, _<_}
 use mathlib.Core.Path.{_≡_}
 use mathlib.Core.List.{List}
 use lib.ListN.{length, getD}
@@ -20,9 +20,8 @@ pub record Indexes (s : List ℕ) (x : Sheet) (m : Model) : Type 0 where
 abbrev pub Indexed : List ℕ → Sheet → Type 0
 Indexed s x = (m : Model) × Indexes s x m
 
--- where the bodies of a sheet's moves begin
-pub record Listed (m : Model) (file bodies : List ℕ) : Type 0 where
-  pub one-each : length bodies ≡ moveCount m
-  pub behind : (v : ℕ) → v < moveCount m → 4 ≤ getD bodies v 0
-  pub long : (v : ℕ) → v < moveCount m → 4 ≤ length (bodyAt file (getD bodies v 0 - 4))
-  pub each : (v : ℕ) → v < moveCount m → moveOf (bodyAt file (getD bodies v 0 - 4)) ≡ moveAt m v
+-- where the records of a sheet's moves begin
+pub record Listed (m : Model) (file places : List ℕ) : Type 0 where
+  pub one-each : length places ≡ moveCount m
+  pub long : (v : ℕ) → v < moveCount m → 4 ≤ length (bodyAt file (getD places v 0))
+  pub each : (v : ℕ) → v < moveCount m → moveOf (bodyAt file (getD places v 0)) ≡ moveAt m v

@@ -1,12 +1,13 @@
 use Prim.Native.Nat.{_-_}
 use lib.ListN.{length}
 use borrow.Author.Needs.{needs}
+use Rattle.sheet.proofs.NeedLoop.{NeedsUpto}
 use Rattle.command.proofs.ActingLoops.{Holding, holding-none, holding-next, holding-fails, holding-end}
 use Rattle.command.proofs.acting.ready.Statement.{statement}
 use Rattle.command.proofs.acting.ready.Tie as tie
 
 abbrev Inv-loop : tie.InvT-loop
-Inv-loop body state at₀ at = Holding state body at
+Inv-loop body state at₀ at = NeedsUpto (Holding state) body at
 
 abbrev μ-loop : tie.MeasureT-loop
 μ-loop body state at₀ at = length body - at

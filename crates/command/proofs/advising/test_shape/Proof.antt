@@ -1,6 +1,5 @@
 use Prim.Native.Nat.{_≤_}
 use mathlib.Core.Path.{_≡_, sym, _∙_}
-use mathlib.Core.Bool.{true}
 use native.Mathlib.Omega.{arith}
 use borrow.Author.Needs.{needs}
 use borrow.Author.Tests.{not-true, not-false}
@@ -10,6 +9,7 @@ use Rattle.plan.specs.Reading.{wellShaped}
 use Rattle.plan.specs.Kept.Outline.{Outlined}
 use Rattle.plan.proofs.PlanShape.{numbers-wrong, numbers-right, numbers-below, count-few, outlined}
 use Rattle.plan.proofs.SheetGroups.{few-machines}
+use Rattle.command.specs.Kept.Question.{Opened}
 use Rattle.command.proofs.Testing.{shape-refused, shape-passed}
 use Rattle.command.proofs.advising.test_shape.Statement.{statement}
 use Rattle.command.proofs.advising.test_shape.Tie as tie
@@ -48,21 +48,31 @@ judged c =
     c .in-shape .ensures _ (indexes-valid i)
     (numbers-right i _ (numbered .before .before .numbers-fit .ensures) (numbered .before .if1 .left)) (kept c)
 
+-- it is in shape: what is opened
+opened : (c : tie.Else2) →
+    let begun = start-2 (c .before) in
+    Opened (begun .pre .0) (begun .args .file .now) (begun .args .plan .now) (begun .args .sheet)
+    (at-of (c .before) .of .result) (c .before .before .before .starts .result)
+opened c =
+    let seen = c .before in
+    record {
+      indexes = start-2 seen .pre .1;
+      shaped = sym (judged seen) ∙ not-false _ (c .if2 .left);
+      outlined = kept seen;
+      long = omega (arith, seen .before .before .starts .ok);
+    }
+
 numbers-fit-requires : tie.Need-numbers-fit-requires
-numbers-fit-requires c κs = few-machines (c .before .before .before .before .pre)
+numbers-fit-requires c κs = search few-machines
 
 returns : tie.Need-returns
-returns c =
-    let i = c .before .before .before .before .before .before .pre .1 in
-    shape-refused i _ _ _ (numbers-wrong i _ (c .before .numbers-fit .ensures) (c .if1 .taken))
+returns c = search (shape-refused, numbers-wrong)
 
 body-requires : tie.Need-body-requires
 body-requires c κs = search needs
 
 of-requires : tie.Need-of-requires
-of-requires c κs =
-    let p = start c .pre in
-    (p, numbers-below (p .1) _ (c .before .before .numbers-fit .ensures) (c .before .if1 .left) (c .body .ensures))
+of-requires c κs = (start c .pre, search numbers-below)
 
 slice-aggregate-starts : tie.Need-slice-aggregate-starts
 slice-aggregate-starts c = search needs
@@ -86,31 +96,13 @@ slice-aggregate-test-state : tie.Need-slice-aggregate-test-state
 slice-aggregate-test-state c = search needs
 
 test-state-requires : tie.Need-test-state-requires
-test-state-requires c κs =
-    let seen = c .before .before in
-    let p = start-2 seen .pre in (
-      p .0,
-      record {
-        indexes = p .1;
-        shaped = sym (judged seen) ∙ not-false _ (c .before .if2 .left);
-        outlined = kept seen;
-        long = omega (arith, seen .before .before .starts .ok);
-      },
-    )
+test-state-requires c κs = (start-2 (c .before .before) .pre .0, opened (c .before))
 
 returns-3 : tie.Need-returns-3
 returns-3 c =
-    let seen = c .before .before .before in
-    let p = start-2 seen .pre in
-    let shaped = sym (judged seen) ∙ not-false _ (c .before .before .if2 .left) in
-    c .test-state .ensures (p .0)
-    (record {
-      indexes = p .1;
-      shaped = shaped;
-      outlined = kept seen;
-      long = omega (arith, seen .before .before .starts .ok);
-    })
-    ∙ sym (shape-passed (p .1) _ _ _ shaped)
+    let shown = c .before .before in
+    let p = start-2 (shown .before) .pre in
+    c .test-state .ensures (p .0) (opened shown) ∙ sym (shape-passed (p .1) _ _ _ (opened shown .shaped))
 
 pub test-shape-spec : {M : Type 1} → statement M
 test-shape-spec =

@@ -1,14 +1,15 @@
 use Prim.Native.Nat.{_-_}
 use native.Mathlib.Omega.{arith}
 use lib.ListN.{length}
-use Rattle.command.proofs.HeldLoop.{HeldUpto, held-none, held-there, held-group, held-next, held-end}
+use Rattle.sheet.proofs.NeedLoop.{NeedsUpto}
+use Rattle.command.proofs.HeldLoop.{Fails, held-none, held-there, held-group, held-next, held-end}
 use Rattle.command.proofs.Placing.{placed-inside}
 use borrow.Author.Needs.{needs}
 use Rattle.command.proofs.fitting.held_up.Statement.{statement}
 use Rattle.command.proofs.fitting.held_up.Tie as tie
 
 abbrev Inv-loop : tie.InvT-loop
-Inv-loop body state numbers r₀ at₀ r at = HeldUpto body state numbers r at
+Inv-loop body state numbers r₀ at₀ r at = NeedsUpto (Fails state numbers r) body at
 
 abbrev μ-loop : tie.MeasureT-loop
 μ-loop body state numbers r₀ at₀ r at = length body - at

@@ -1,22 +1,23 @@
 use Prim.Native.Nat.{ℕ, _+_, _*_, _<_}
-use mathlib.Core.Path.{refl, sym, ap, _∙_}
+use mathlib.Core.Path.{refl}
 use mathlib.Core.Logic.{⊎-elim}
 use native.Mathlib.Omega.{arith}
 use borrow.Author.Needs.{needs}
-use borrow.Author.Tests.{leb-true, leb-false, not-true, not-false}
+use borrow.Author.Tests.{leb-false}
 use borrow.Fn.Kinds.{In}
 use borrow.Fn.PlainCycle.{Measures, is, falls, and}
-use Rattle.common.specs.Bits.{bit}
 use Rattle.sheet.specs.Record.{byte}
-use Rattle.plan.specs.Groups.{groupOf}
+use Rattle.plan.specs.Groups.{groupOf, groupCount}
+use Rattle.plan.specs.Reading.{groupsIn}
 use Rattle.command.specs.Kept.Question.{machinesIn, numbersIn}
-use Rattle.command.proofs.Looked.{kept-group, kept-fits}
-use Rattle.command.proofs.Placing.{placed-known, placed-count, placed-inside, kept-placed, kept-held}
-use Rattle.command.proofs.Startable.{listed-there, listed-behind, listed-long, listed-move, listed-valid, listed-present}
-use Rattle.command.proofs.Startable.{entry-far, entry-absent, entry-elsewhere, entry-held, entry-idle}
-use Rattle.command.proofs.Startable.{entry-own, entry-outside, entry-prepares}
+use Rattle.command.proofs.Looked.{kept-group, kept-small, kept-fits}
+use Rattle.command.proofs.Placing.{placed-known, kept-held}
+use Rattle.command.proofs.Startable.{Led, led-placed, led-present, led-move, led-valid, led-long, led-some}
+use Rattle.command.proofs.Startable.{led-numbered, led-inside, Passed, passed, passed-own}
+use Rattle.command.proofs.Startable.{entry-far, entry-absent, entry-elsewhere, entry-held}
+use Rattle.command.proofs.Startable.{entry-outside, entry-idle, entry-prepares}
 use Rattle.command.proofs.Waiting.{prepare-sends, prepare-valid, prepare-there, prepare-lower, prepare-allowed}
-use Rattle.command.proofs.Waiting.{prepare-fulfils}
+use Rattle.command.proofs.Waiting.{prepare-fulfils, Meets, meets-by}
 use Rattle.command.proofs.method.fulfil.Reads as fulfil
 use Rattle.command.proofs.method.fulfil.Kinds as fulfil-kinds
 use Rattle.command.proofs.method.+fulfil+prepare.Lts-fulfil as fulfil-lts
@@ -34,7 +35,7 @@ use Rattle.plan.proofs.standing.meeting.Reads as meeting-reads
 use Rattle.sets.proofs.first.Reads as first-reads
 use Rattle.sets.proofs.has.Reads as has-reads
 use Rattle.sets.proofs.highest.Reads as highest-reads
-use Rattle.sheet.proofs.record.body.Reads as body-reads
+use Rattle.sheet.proofs.index.move_body.Reads as move-body-reads
 use Rattle.sheet.proofs.record.wide.Reads as wide-reads
 use Rattle.command.proofs.method.+fulfil+prepare.{statement}
 use Rattle.command.proofs.method.+fulfil+prepare.Tie.{close}
@@ -70,8 +71,8 @@ fulfil-calls t = (
   toward-reads.Learnt,
   wide-reads.Asked,
   wide-reads.Learnt,
-  body-reads.Asked,
-  body-reads.Learnt,
+  move-body-reads.Asked,
+  move-body-reads.Learnt,
   numbers-reads.Asked,
   numbers-reads.Learnt,
   held-up-reads.Asked,
@@ -104,257 +105,177 @@ prepare-calls t = (
   fulfil.Post,
 )
 
-fulfil-toward-requires : (t : ℕ) → fulfil-lts.Need-toward-requires (fulfil-calls t) (fulfil-at t) fulfil.Post
-fulfil-toward-requires t c κs =
-    let (m, goal, kept, l, below, fits) = c .before .before .before .before .before .before .before .pre .1 in
-    (m, _, _, goal, kept, below, fits)
+module _ (t : ℕ) where
+  -- places in fulfilling, as they are seen behind `numbers`
 
-fulfil-wide-requires : (t : ℕ) → fulfil-lts.Need-wide-requires (fulfil-calls t) (fulfil-at t) fulfil.Post
-fulfil-wide-requires t c κs = search needs
+  abbrev Read : Type 0
+  Read = fulfil-lts.After-numbers (fulfil-calls t) (fulfil-at t) fulfil.Post
 
-fulfil-returns : (t : ℕ) → fulfil-lts.Need-returns (fulfil-calls t) (fulfil-at t) fulfil.Post
-fulfil-returns t c =
-    λ m goal kept l below fits.
-    let led = c .before .before .before in
-    ⊎-elim
-    (λ w. entry-far (led .toward .ensures) m goal kept l below fits (w .taken))
-    (λ w.
-    entry-absent (led .toward .ensures) m goal kept l below fits (c .before .before .wide .ensures .0)
-    (leb-true _ _ (w .1 .taken)))
-    (c .if1 .came)
+  abbrev looked : Read → fulfil-lts.After-wide (fulfil-calls t) (fulfil-at t) fulfil.Post
+  looked c = c .before .before .before .before .before
 
-fulfil-mul-start : (t : ℕ) → fulfil-lts.Need-mul-start (fulfil-calls t) (fulfil-at t) fulfil.Post
-fulfil-mul-start t c = search needs
+  abbrev start : Read → fulfil-lts.Start (fulfil-calls t) (fulfil-at t) fulfil.Post
+  start c = looked c .before .before .before .before .before .before .before .before .before
 
-fulfil-shared-slice-read-start : (t : ℕ)
-    → fulfil-lts.Need-shared-slice-read-start (fulfil-calls t) (fulfil-at t) fulfil.Post
-fulfil-shared-slice-read-start t c = leb-false _ _ (c .before .if2 .left)
+  led : (c : Read) →
+      let a = start c .args in
+      let cell = looked c .before .toward .result in
+      Led (a .file .now) (a .places .now) (a .plan .now) (a .starts .now) (a .state .now) (a .facts .now) (a .group .0)
+      (a .allowed) (cell .distance) (cell .first) (looked c .wide .result) (c .before .move-body .result .now)
+      (c .numbers .result .now)
+  led c = search
 
-fulfil-cast-start : (t : ℕ) → fulfil-lts.Need-cast-start (fulfil-calls t) (fulfil-at t) fulfil.Post
-fulfil-cast-start t c = omega (arith, c .shared-slice-known8 .given (c .before .before .before .before .wide .result))
+  fulfil-toward-requires : fulfil-lts.Need-toward-requires (fulfil-calls t) (fulfil-at t) fulfil.Post
+  fulfil-toward-requires c κs = search needs
 
-fulfil-sub-body : (t : ℕ) → fulfil-lts.Need-sub-body (fulfil-calls t) (fulfil-at t) fulfil.Post
-fulfil-sub-body t c =
-    let led = c .before .before .before .before .before in
-    let l = led .before .before .before .before .before .before .before .before .pre .1 .3 in
-    listed-behind l (leb-false _ _ (c .before .if2 .left))
+  fulfil-wide-requires : fulfil-lts.Need-wide-requires (fulfil-calls t) (fulfil-at t) fulfil.Post
+  fulfil-wide-requires c κs = search needs
 
-fulfil-body-requires : (t : ℕ) → fulfil-lts.Need-body-requires (fulfil-calls t) (fulfil-at t) fulfil.Post
-fulfil-body-requires t c κs = search needs
+  fulfil-returns : fulfil-lts.Need-returns (fulfil-calls t) (fulfil-at t) fulfil.Post
+  fulfil-returns c m goal kept l below fits =
+      let toward = c .before .before .before .toward .ensures in
+      ⊎-elim
+      (λ w. entry-far m goal kept l below fits toward (w .taken))
+      (λ w. entry-absent m goal kept l below fits toward (c .before .before .wide .ensures .0) (w .1 .taken))
+      (c .if1 .came)
 
-fulfil-numbers-requires : (t : ℕ) → fulfil-lts.Need-numbers-requires (fulfil-calls t) (fulfil-at t) fulfil.Post
-fulfil-numbers-requires t c κs =
-    let led = c .before .before .before .before .before .before in
-    let kept = led .before .before .before .before .before .before .before .before .pre .1 .2 in
-    (kept .long, placed-known (kept .placed))
+  fulfil-move-body-requires : fulfil-lts.Need-move-body-requires (fulfil-calls t) (fulfil-at t) fulfil.Post
+  fulfil-move-body-requires c κs = search leb-false
 
-fulfil-held-up-requires : (t : ℕ) → fulfil-lts.Need-held-up-requires (fulfil-calls t) (fulfil-at t) fulfil.Post
-fulfil-held-up-requires t c κs =
-    let led = c .before .before .before .before .before .before .before in
-    let start = led .before .before .before .before .before .before .before .before in
-    let (m, goal, kept, l, below, fits) = start .pre .1 in
-    let p = kept-placed kept (c .numbers .ensures) in
-    (m, _, p, listed-valid l (leb-false _ _ (c .before .before .before .if2 .left)) (c .before .body .ensures) p)
+  fulfil-numbers-requires : fulfil-lts.Need-numbers-requires (fulfil-calls t) (fulfil-at t) fulfil.Post
+  fulfil-numbers-requires c κs = search placed-known
 
-fulfil-from-now-requires : (t : ℕ) → fulfil-lts.Need-from-now-requires (fulfil-calls t) (fulfil-at t) fulfil.Post
-fulfil-from-now-requires t c κs =
-    let led = c .before .before .before .before .before .before .before .before in
-    let (m, goal, kept, l, below, fits) = led .before .before .before .before .before .before .before .before .pre .1 in
-    let there = leb-false _ _ (c .before .before .before .before .if2 .left) in
-    let f = c .before .before .body .ensures in
-    let p = kept-placed kept (c .before .numbers .ensures) in
-    let present = listed-present l there f p in
-    (omega (arith, listed-long l there f), present, omega (arith, placed-inside p _ present))
+  fulfil-held-up-requires : fulfil-lts.Need-held-up-requires (fulfil-calls t) (fulfil-at t) fulfil.Post
+  fulfil-held-up-requires c κs =
+      let (m, goal, kept, l, below, fits) = start c .pre .1 in
+      (m, _, led-placed (led c) kept l, led-valid (led c) kept l)
 
-fulfil-wide-requires-2 : (t : ℕ) → fulfil-lts.Need-wide-requires-2 (fulfil-calls t) (fulfil-at t) fulfil.Post
-fulfil-wide-requires-2 t c κs = search needs
+  fulfil-from-now-requires : fulfil-lts.Need-from-now-requires (fulfil-calls t) (fulfil-at t) fulfil.Post
+  fulfil-from-now-requires c κs = search (led-some, led-numbered, led-inside, led (c .before))
 
-fulfil-has-requires : (t : ℕ) → fulfil-lts.Need-has-requires (fulfil-calls t) (fulfil-at t) fulfil.Post
-fulfil-has-requires t c κs =
-    let led = c .before .before .before .before .before .before .before .before .before .before .before in
-    let start = led .before .before .before .before .before .before .before .before in
-    let (m, goal, kept, l, below, fits) = start .pre .1 in
-    omega (arith, c .wide2 .ensures .0, below, placed-count (kept .placed))
+  fulfil-wide-requires-2 : fulfil-lts.Need-wide-requires-2 (fulfil-calls t) (fulfil-at t) fulfil.Post
+  fulfil-wide-requires-2 c κs = search needs
 
-fulfil-returns-2 : (t : ℕ) → fulfil-lts.Need-returns-2 (fulfil-calls t) (fulfil-at t) fulfil.Post
-fulfil-returns-2 t c =
-    λ m goal kept l below fits.
-    let judged = c .before in
-    let known = judged .before .before in
-    let tested = known .before .before .before in
-    let led-by = tested .before .before .before in
-    let led = led-by .before in
-    let there = leb-false _ _ (tested .if2 .left) in
-    ⊎-elim
-    (λ w.
-    entry-elsewhere (led .toward .ensures) m goal kept l below fits (led-by .wide .ensures .0) there
-    (known .before .body .ensures) (known .numbers .ensures) (judged .before .held-up .ensures)
-    (judged .from-now .ensures) (tested .before .if1 .left) (not-true _ (w .taken)))
-    (λ w.
-    entry-held (led .toward .ensures) m goal kept l below fits (led-by .wide .ensures .0) there
-    (known .before .body .ensures) (known .numbers .ensures) (judged .before .held-up .ensures)
-    (judged .from-now .ensures) (tested .before .if1 .left)
-    (ap (bit _) (sym (w .1 .ensures .0)) ∙ sym (w .2 .ensures) ∙ w .3 .taken))
-    (c .if3 .came)
+  fulfil-has-requires : fulfil-lts.Need-has-requires (fulfil-calls t) (fulfil-at t) fulfil.Post
+  fulfil-has-requires c κs = search kept-small
 
-fulfil-usable-requires : (t : ℕ) → fulfil-lts.Need-usable-requires (fulfil-calls t) (fulfil-at t) fulfil.Post
-fulfil-usable-requires t c κs =
-    let judged = c .before .before .before .before in
-    let known = judged .before .before in
-    let tested = known .before .before .before in
-    let led = tested .before .before .before .before in
-    let there = leb-false _ _ (tested .if2 .left) in
-    let start = led .before .before .before .before .before .before .before .before in
-    let (m, goal, kept, l, below, fits) = start .pre .1 in (
-      m,
-      _,
-      _,
-      kept,
-      kept-placed kept (known .numbers .ensures) .numbered,
-      listed-there l there,
-      listed-move l there (known .before .body .ensures),
-    )
+  fulfil-returns-2 : fulfil-lts.Need-returns-2 (fulfil-calls t) (fulfil-at t) fulfil.Post
+  fulfil-returns-2 c m goal kept l below fits =
+      let here = c .before in
+      let q = led (here .before .before) in
+      let stops = here .before .held-up .ensures in
+      let judged = here .from-now .ensures in
+      ⊎-elim
+      (λ w. entry-elsewhere m goal kept l below fits q stops judged (w .taken))
+      (λ w. entry-held m goal kept l below fits q stops judged (w .1 .ensures .0) (w .2 .ensures) (w .3 .taken))
+      (c .if3 .came)
 
-fulfil-returns-3 : (t : ℕ) → fulfil-lts.Need-returns-3 (fulfil-calls t) (fulfil-at t) fulfil.Post
-fulfil-returns-3 t c =
-    λ m goal kept l below fits.
-    let judged = c .before .before .before .before .before .before in
-    let known = judged .before .before in
-    let tested = known .before .before .before in
-    let led-by = tested .before .before .before in
-    let led = led-by .before in
-    let there = leb-false _ _ (tested .if2 .left) in
-    let told = c .before .usable .ensures m _ _ kept (kept-placed kept (known .numbers .ensures) .numbered) (listed-there l there)
-    (listed-move l there (known .before .body .ensures)) in
-    entry-idle (led .toward .ensures) m goal kept l below fits (led-by .wide .ensures .0) there
-    (known .before .body .ensures) (known .numbers .ensures) (judged .before .held-up .ensures)
-    (judged .from-now .ensures) (tested .before .if1 .left) (sym told ∙ not-true _ (c .if5 .taken))
+  -- the move has passed its tests
 
-fulfil-prepare-requires : (t : ℕ) → fulfil-lts.Need-prepare-requires (fulfil-calls t) (fulfil-at t) fulfil.Post
-fulfil-prepare-requires t c κs =
-    let free-here = c .before .before in
-    let judged = free-here .before .before .before .before in
-    let known = judged .before .before in
-    let tested = known .before .before .before in
-    let led-by = tested .before .before .before in
-    let led = led-by .before in
-    let there = leb-false _ _ (tested .if2 .left) in
-    let start = led .before .before .before .before .before .before .before .before in
-    let (m, goal, kept, l, below, fits) = start .pre .1 in
-    let starts = not-false _ (free-here .before .before .before .if3 .left) in
-    let last = free-here .before in
-    let free = ap (bit _) (sym (last .before .wide2 .ensures .0)) ∙ sym (last .has .ensures) ∙ free-here .if4 .left in
-    let own =
-    entry-own (led .toward .ensures) m goal kept l below fits (led-by .wide .ensures .0) there
-    (known .before .body .ensures) (known .numbers .ensures) (judged .before .held-up .ensures)
-    (judged .from-now .ensures) starts free in
-    let outside =
-    entry-outside (led .toward .ensures) m goal kept l below fits (led-by .wide .ensures .0) there
-    (known .before .body .ensures) (known .numbers .ensures) (judged .before .held-up .ensures)
-    (judged .from-now .ensures) starts free in
-    let same = listed-move l there (known .before .body .ensures) in (
-      omega (arith, own, start .pre .0),
-      ((m, kept, l, _, listed-there l there, same, outside), listed-long l there (known .before .body .ensures)),
-    )
+  abbrev Free : Type 0
+  Free = fulfil-lts.Else4 (fulfil-calls t) (fulfil-at t) fulfil.Post
 
-fulfil-returns-4 : (t : ℕ) → fulfil-lts.Need-returns-4 (fulfil-calls t) (fulfil-at t) fulfil.Post
-fulfil-returns-4 t c =
-    λ m goal kept l below fits.
-    let at-usable = c .before .before in
-    let free-here = at-usable .before in
-    let judged = free-here .before .before .before .before in
-    let known = judged .before .before in
-    let tested = known .before .before .before in
-    let led-by = tested .before .before .before in
-    let led = led-by .before in
-    let there = leb-false _ _ (tested .if2 .left) in
-    let starts = not-false _ (free-here .before .before .before .if3 .left) in
-    let last = free-here .before in
-    let free = ap (bit _) (sym (last .before .wide2 .ensures .0)) ∙ sym (last .has .ensures) ∙ free-here .if4 .left in
-    let told = at-usable .usable .ensures m _ _ kept (kept-placed kept (known .numbers .ensures) .numbered) (listed-there l there)
-    (listed-move l there (known .before .body .ensures)) in
-    entry-prepares (led .toward .ensures) m goal kept l below fits (led-by .wide .ensures .0) there
-    (known .before .body .ensures) (known .numbers .ensures) (judged .before .held-up .ensures)
-    (judged .from-now .ensures) starts free (tested .before .if1 .left) (sym told ∙ not-false _ (c .before .if5 .left))
-    (c .prepare .ensures)
+  abbrev held : Free → fulfil-lts.After-held-up (fulfil-calls t) (fulfil-at t) fulfil.Post
+  held c = c .before .before .before .before .before
 
-prepare-shared-slice-read-t15 : (t : ℕ)
-    → prepare-lts.Need-shared-slice-read-t15 (prepare-calls t) (prepare-at t) prepare.Post
-prepare-shared-slice-read-t15 t c = search needs
+  passes : (c : Free) → Passed (led (held c .before)) (held c .held-up .result)
+  passes c = search passed
 
-prepare-shared-slice-read-t18 : (t : ℕ)
-    → prepare-lts.Need-shared-slice-read-t18 (prepare-calls t) (prepare-at t) prepare.Post
-prepare-shared-slice-read-t18 t c = search needs
+  fulfil-usable-requires : fulfil-lts.Need-usable-requires (fulfil-calls t) (fulfil-at t) fulfil.Post
+  fulfil-usable-requires c κs =
+      let q = led (held c .before) in
+      let (m, goal, kept, l, below, fits) = start (held c .before) .pre .1 in
+      (m, _, _, kept, led-placed q kept l .numbered, led-present q kept l, led-move q kept l)
 
-prepare-returns : (t : ℕ) → prepare-lts.Need-returns (prepare-calls t) (prepare-at t) prepare.Post
-prepare-returns t c = λ m v kept l there same o. prepare-sends _ m v kept there same o (c .before .before .if1 .taken)
+  fulfil-returns-3 : fulfil-lts.Need-returns-3 (fulfil-calls t) (fulfil-at t) fulfil.Post
+  fulfil-returns-3 c m goal kept l below fits =
+      entry-idle m goal kept l below fits (passes (c .before .before)) (c .before .usable .ensures) (c .if5 .taken)
 
-prepare-highest-requires : (t : ℕ) → prepare-lts.Need-highest-requires (prepare-calls t) (prepare-at t) prepare.Post
-prepare-highest-requires t c κs = search needs
+  fulfil-prepare-requires : fulfil-lts.Need-prepare-requires (fulfil-calls t) (fulfil-at t) fulfil.Post
+  fulfil-prepare-requires c κs =
+      let read = held (c .before .before) .before in
+      let q = led read in
+      let p = passes (c .before .before) in
+      let (m, goal, kept, l, below, fits) = start read .pre .1 in (
+        omega (arith, passed-own q p, start read .pre .0),
+        (
+          (m, kept, l, _, led-present q kept l, led-move q kept l, entry-outside m goal kept l below fits p),
+          led-long q kept l,
+        ),
+      )
 
-prepare-cast-t19 : (t : ℕ) → prepare-lts.Need-cast-t19 (prepare-calls t) (prepare-at t) prepare.Post
-prepare-cast-t19 t c = search needs
+  fulfil-returns-4 : fulfil-lts.Need-returns-4 (fulfil-calls t) (fulfil-at t) fulfil.Post
+  fulfil-returns-4 c m goal kept l below fits =
+      entry-prepares m goal kept l below fits (passes (c .before .before .before)) (c .before .before .usable .ensures)
+      (c .before .if5 .left) (c .prepare .ensures)
 
-prepare-numbers-requires : (t : ℕ) → prepare-lts.Need-numbers-requires (prepare-calls t) (prepare-at t) prepare.Post
-prepare-numbers-requires t c κs =
-    let start = c .before .before .before .before .before .before .before .before .before .before in
-    let kept = start .pre .1 .0 .1 in
-    (kept .long, placed-known (kept .placed))
+  -- places in preparing, as they are seen behind `highest`
 
-prepare-weights-requires : (t : ℕ) → prepare-lts.Need-weights-requires (prepare-calls t) (prepare-at t) prepare.Post
-prepare-weights-requires t c κs =
-    let first = c .before in
-    let start = first .before .before .before .before .before .before .before .before .before .before in
-    start .pre .1 .0 .1 .long
+  abbrev Waits : Type 0
+  Waits = prepare-lts.After-highest (prepare-calls t) (prepare-at t) prepare.Post
 
-prepare-size-of-requires : (t : ℕ) → prepare-lts.Need-size-of-requires (prepare-calls t) (prepare-at t) prepare.Post
-prepare-size-of-requires t c κs =
-    let first = c .before .before in
-    let top = first .highest .ensures in
-    let start = first .before .before .before .before .before .before .before .before .before .before in
-    let (m, kept, l, v, there, same, o) = start .pre .1 .0 in
-    kept-group kept (prepare-there _ m v kept there same o (top .0) (top .1) (top .2))
+  abbrev begun : Waits → prepare-lts.Start (prepare-calls t) (prepare-at t) prepare.Post
+  begun c = c .before .before .before .before .before .before .before .before .before .before
 
-prepare-first-requires : (t : ℕ) → prepare-lts.Need-first-requires (prepare-calls t) (prepare-at t) prepare.Post
-prepare-first-requires t c κs =
-    let first = c .before .before .before in
-    let top = first .highest .ensures in
-    let start = first .before .before .before .before .before .before .before .before .before .before in
-    let (m, kept, l, v, there, same, o) = start .pre .1 .0 in
-    let below = prepare-there _ m v kept there same o (top .0) (top .1) (top .2) in
-    kept-fits kept below refl (c .size-of .ensures .0) .0
+  below : (c : Waits) → c .highest .result < groupCount (groupsIn (begun c .pre .1 .0 .0) (begun c .args .plan .now))
+  below c =
+      let (m, kept, l, v, there, same, o) = begun c .pre .1 .0 in
+      prepare-there _ kept there same o (c .highest .ensures)
 
-prepare-meeting-requires : (t : ℕ) → prepare-lts.Need-meeting-requires (prepare-calls t) (prepare-at t) prepare.Post
-prepare-meeting-requires t c κs =
-    let first = c .before .before .before .before in
-    let start = first .before .before .before .before .before .before .before .before .before .before in
-    let (m, kept, l, v, there, same, o) = start .pre .1 .0 in
-    let held = kept-held kept (c .before .before .before .numbers .ensures) (c .before .before .weights .ensures) in
-    (m, held, prepare-valid _ m v kept there same o)
+  prepare-shared-slice-read-t15 : prepare-lts.Need-shared-slice-read-t15 (prepare-calls t) (prepare-at t) prepare.Post
+  prepare-shared-slice-read-t15 c = search needs
 
-prepare-fulfil-requires : (t : ℕ) → prepare-lts.Need-fulfil-requires (prepare-calls t) (prepare-at t) prepare.Post
-prepare-fulfil-requires t c κs =
-    let first = c .before .before .before .before .before in
-    let top = first .highest .ensures in
-    let start = first .before .before .before .before .before .before .before .before .before .before in
-    let (m, kept, l, v, there, same, o) = start .pre .1 .0 in
-    let allowed =
-    prepare-allowed _ m v kept there same o (top .0) (top .1) (top .2)
-    (c .before .before .before .before .numbers .ensures) (c .before .before .before .weights .ensures)
-    (c .before .before .size-of .ensures .0) (c .before .first .ensures) (c .meeting .ensures) in
-    let lower = prepare-lower _ m v kept there same o (top .0) (top .1) (top .2) in (
-      omega (arith, lower, start .pre .0),
-      (m, _, kept, l, prepare-there _ m v kept there same o (top .0) (top .1) (top .2), allowed),
-    )
+  prepare-shared-slice-read-t18 : prepare-lts.Need-shared-slice-read-t18 (prepare-calls t) (prepare-at t) prepare.Post
+  prepare-shared-slice-read-t18 c = search needs
 
-prepare-returns-2 : (t : ℕ) → prepare-lts.Need-returns-2 (prepare-calls t) (prepare-at t) prepare.Post
-prepare-returns-2 t c =
-    λ m v kept l there same o.
-    let top = c .before .before .before .before .before .before .highest .ensures in
-    prepare-fulfils _ m v kept there same o (top .0) (top .1) (top .2)
-    (c .before .before .before .before .before .numbers .ensures) (c .before .before .before .before .weights .ensures)
-    (c .before .before .before .size-of .ensures .0) (c .before .before .first .ensures) (c .before .meeting .ensures)
-    l (c .fulfil .ensures)
+  prepare-returns : prepare-lts.Need-returns (prepare-calls t) (prepare-at t) prepare.Post
+  prepare-returns c m v kept l there same o = search prepare-sends
+
+  prepare-highest-requires : prepare-lts.Need-highest-requires (prepare-calls t) (prepare-at t) prepare.Post
+  prepare-highest-requires c κs = search needs
+
+  prepare-cast-t19 : prepare-lts.Need-cast-t19 (prepare-calls t) (prepare-at t) prepare.Post
+  prepare-cast-t19 c = search needs
+
+  prepare-numbers-requires : prepare-lts.Need-numbers-requires (prepare-calls t) (prepare-at t) prepare.Post
+  prepare-numbers-requires c κs = search placed-known
+
+  prepare-weights-requires : prepare-lts.Need-weights-requires (prepare-calls t) (prepare-at t) prepare.Post
+  prepare-weights-requires c κs = search needs
+
+  prepare-size-of-requires : prepare-lts.Need-size-of-requires (prepare-calls t) (prepare-at t) prepare.Post
+  prepare-size-of-requires c κs = let w = c .before .before in kept-group (begun w .pre .1 .0 .1) (below w)
+
+  prepare-first-requires : prepare-lts.Need-first-requires (prepare-calls t) (prepare-at t) prepare.Post
+  prepare-first-requires c κs =
+      let w = c .before .before .before in
+      kept-fits (begun w .pre .1 .0 .1) (below w) refl (c .size-of .ensures .0) .0
+
+  prepare-meeting-requires : prepare-lts.Need-meeting-requires (prepare-calls t) (prepare-at t) prepare.Post
+  prepare-meeting-requires c κs =
+      let weighed = c .before .before in
+      let (m, kept, l, v, there, same, o) = begun (weighed .before .before) .pre .1 .0 in
+      (m, kept-held kept (weighed .before .numbers .ensures) (weighed .weights .ensures), prepare-valid _ kept there same o)
+
+  abbrev topped : prepare-lts.After-meeting (prepare-calls t) (prepare-at t) prepare.Post → Waits
+  topped c = c .before .before .before .before .before
+
+  meets : (c : prepare-lts.After-meeting (prepare-calls t) (prepare-at t) prepare.Post) →
+      let a = begun (topped c) .args in
+      Meets (a .state .now) (a .facts .now) (a .zeros .now) (a .b .now) (topped c .highest .result) (c .meeting .result)
+  meets c = search meets-by
+
+  prepare-fulfil-requires : prepare-lts.Need-fulfil-requires (prepare-calls t) (prepare-at t) prepare.Post
+  prepare-fulfil-requires c κs =
+      let (m, kept, l, v, there, same, o) = begun (topped c) .pre .1 .0 in
+      let top = topped c .highest .ensures in (
+        omega (arith, prepare-lower _ kept there same o top, begun (topped c) .pre .0),
+        (m, _, kept, l, below (topped c), prepare-allowed _ kept there same o top (meets c)),
+      )
+
+  prepare-returns-2 : prepare-lts.Need-returns-2 (prepare-calls t) (prepare-at t) prepare.Post
+  prepare-returns-2 c m v kept l there same o =
+      prepare-fulfils _ kept there same o (topped (c .before) .highest .ensures) (meets (c .before)) l (c .fulfil .ensures)
 
 pub +fulfil+prepare-spec : {M : Type 1} → statement M
 +fulfil+prepare-spec =
@@ -364,11 +285,7 @@ pub +fulfil+prepare-spec : {M : Type 1} → statement M
     (fulfil-toward-requires t)
     (fulfil-wide-requires t)
     (fulfil-returns t)
-    (fulfil-mul-start t)
-    (fulfil-shared-slice-read-start t)
-    (fulfil-cast-start t)
-    (fulfil-sub-body t)
-    (fulfil-body-requires t)
+    (fulfil-move-body-requires t)
     (fulfil-numbers-requires t)
     (fulfil-held-up-requires t)
     (fulfil-from-now-requires t)

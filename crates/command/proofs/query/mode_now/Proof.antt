@@ -1,8 +1,6 @@
-use mathlib.Core.Path.{ap, _∙_}
-use Prim.Native.Nat.{ℕ, _+_}
-use lib.ListN.{getD}
-use Rattle.command.specs.Kept.Question.{presentIn}
 use borrow.Author.Needs.{needs}
+use Rattle.command.specs.Kept.Question.{presentIn}
+use Rattle.command.proofs.Gathering.{read-at}
 use Rattle.command.proofs.query.mode_now.Statement.{statement}
 use Rattle.command.proofs.query.mode_now.Tie as tie
 
@@ -20,8 +18,7 @@ wide-requires-2 c κs = search needs
 
 returns : tie.Need-returns
 unfolding presentIn
-returns c =
-    (c .wide2 .ensures .0 ∙ ap (λ (i : ℕ). getD (c .before .before .before .before .args .facts .now) (96 + i) 0) (c .before .before .wide .ensures .0), c .wide2 .ensures .1)
+returns c = (search read-at, search needs)
 
 pub mode-now-spec : {M : Type 1} → statement M
 mode-now-spec = tie.close (tie.spec wide-requires add-wide shared-slice-read-wide wide-requires-2 returns)

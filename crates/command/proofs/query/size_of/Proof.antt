@@ -1,8 +1,6 @@
-use mathlib.Core.Path.{ap, _∙_}
-use Prim.Native.Nat.{ℕ, _+_}
-use lib.ListN.{getD}
-use Rattle.command.specs.Kept.Question.{sizeIn}
 use borrow.Author.Needs.{needs}
+use Rattle.command.specs.Kept.Question.{sizeIn}
+use Rattle.command.proofs.Gathering.{read-at}
 use Rattle.command.proofs.query.size_of.Statement.{statement}
 use Rattle.command.proofs.query.size_of.Tie as tie
 
@@ -20,8 +18,7 @@ wide-requires-2 c κs = search needs
 
 returns : tie.Need-returns
 unfolding sizeIn
-returns c =
-    (c .wide2 .ensures .0 ∙ ap (λ (i : ℕ). getD (c .before .before .before .before .args .facts .now) (64 + i) 0) (c .before .before .wide .ensures .0), c .wide2 .ensures .1)
+returns c = (search read-at, search needs)
 
 pub size-of-spec : {M : Type 1} → statement M
 size-of-spec = tie.close (tie.spec wide-requires add-wide shared-slice-read-wide wide-requires-2 returns)

@@ -1,9 +1,8 @@
-use Prim.Native.Nat.{_-_, _<_}
-use mathlib.Core.Path.{_∙_}
+use Prim.Native.Nat.{_-_}
 use native.Mathlib.Omega.{arith}
-use lib.ListN.{length}
 use borrow.Author.Needs.{needs}
-use Rattle.command.proofs.Shape.{sound-state}
+use lib.ListN.{length}
+use Rattle.command.proofs.EachMachine.{weighed-few, weighed-bytes, mode-inside, next-fits}
 use Rattle.command.proofs.PresentLoop.{PresentUpto, number-place, present-none, mode-byte, sum-byte}
 use Rattle.command.proofs.PresentLoop.{present-next, present-end}
 use Rattle.command.proofs.state.present.Statement.{statement}
@@ -16,7 +15,7 @@ abbrev μ-loop : tie.MeasureT-loop
 μ-loop state numbers weights r₀ i₀ r i = length numbers - i
 
 loop-holds : tie.Need-loop-holds Inv-loop μ-loop
-loop-holds c = present-none _ _ _
+loop-holds c = search present-none
 
 wide-requires : tie.Need-wide-requires Inv-loop μ-loop
 wide-requires c κs = search needs
@@ -28,9 +27,7 @@ wide-requires-2 : tie.Need-wide-requires-2 Inv-loop μ-loop
 wide-requires-2 c κs = search needs
 
 mode-at-requires : tie.Need-mode-at-requires Inv-loop μ-loop
-mode-at-requires c κs =
-    let (m, w, passes, places) = c .before .before .before .before .before .before .before .before .pre in
-    omega (arith, w .all-machines, sound-state m _ passes .long)
+mode-at-requires c κs = search (mode-inside, weighed-bytes)
 
 wide-requires-3 : tie.Need-wide-requires-3 Inv-loop μ-loop
 wide-requires-3 c κs = search needs
@@ -38,38 +35,19 @@ wide-requires-3 c κs = search needs
 shared-slice-read-r : tie.Need-shared-slice-read-r Inv-loop μ-loop
 shared-slice-read-r c =
     let at-loop = c .before .before .before .before .before .before .before in
-    let start = at-loop .before .before .before .before in
-    let (m, w, passes, places) = start .pre in
-    omega (arith, w .weighs .long)
+    omega (arith, at-loop .before .before .before .before .pre .1 .weighs .long)
 
 mul-r : tie.Need-mul-r Inv-loop μ-loop
-mul-r c =
-    let at-loop = c .before .before .before .before .before .before .before in
-    let start = at-loop .before .before .before .before in
-    let (m, w, passes, places) = start .pre in
-    let below : at-loop .loop .i < length (start .args .numbers .now) = omega arith in
-    let mode = c .before .before .mode-at .ensures in
-    rw (c .before .wide3 .ensures .0) (omega (arith, mode-byte _ _ _ w below passes mode))
+mul-r c = search mode-byte
 
 array-read-r : tie.Need-array-read-r Inv-loop μ-loop
-array-read-r c =
-    let at-loop = c .before .before .before .before .before .before .before in
-    let start = at-loop .before .before .before .before in
-    let (m, w, passes, places) = start .pre in
-    let below : at-loop .loop .i < length (start .args .numbers .now) = omega arith in
-    let number = c .before .before .before .wide2 .ensures .0 ∙ c .before .before .before .before .group-of .ensures in
-    number-place (start .args .numbers .now) places below number
+array-read-r c = search number-place
 
 add-r : tie.Need-add-r Inv-loop μ-loop
 add-r c =
     let at-loop = c .before .before .before .before .before .before .before in
-    let start = at-loop .before .before .before .before in
-    let (m, w, passes, places) = start .pre in
-    let below : at-loop .loop .i < length (start .args .numbers .now) = omega arith in
-    let mode = c .before .before .mode-at .ensures in
-    let number = c .before .before .before .wide2 .ensures .0 ∙ c .before .before .before .before .group-of .ensures in
-    rw (c .before .wide3 .ensures .0)
-    (omega (arith, sum-byte _ _ _ w below passes (at-loop .loop .inv) places number mode))
+    let (m, w, passes, places) = at-loop .before .before .before .before .pre in
+    search (sum-byte, w, passes, places, at-loop .loop .inv)
 
 array-write-r : tie.Need-array-write-r Inv-loop μ-loop
 array-write-r c = array-read-r c
@@ -77,24 +55,16 @@ array-write-r c = array-read-r c
 add-i : tie.Need-add-i Inv-loop μ-loop
 add-i c =
     let at-loop = c .before .before .before .before .before .before .before in
-    let start = at-loop .before .before .before .before in
-    let (m, w, passes, places) = start .pre in
-    omega (arith, w .all-machines, w .valid .few-machines)
+    search (next-fits, weighed-few (at-loop .before .before .before .before .pre .1))
 
 loop-less : tie.Need-loop-less Inv-loop μ-loop
 loop-less c = search needs
 
 loop-again : tie.Need-loop-again Inv-loop μ-loop
-loop-again c =
-    let at-loop = c .before .before .before .before .before .before .before in
-    let start = at-loop .before .before .before .before in
-    let (m, w, passes, places) = start .pre in
-    let mode = c .before .before .mode-at .ensures in
-    let number = c .before .before .before .wide2 .ensures .0 ∙ c .before .before .before .before .group-of .ensures in
-    rw (c .before .wide3 .ensures .0) (present-next _ _ _ (at-loop .loop .inv) places (omega arith) number mode)
+loop-again c = search present-next
 
 returns : tie.Need-returns Inv-loop μ-loop
-returns c m w passes = present-end _ _ _ (c .before .before .loop .inv) (omega arith) m w
+returns c m w passes = search present-end
 
 pub present-spec : {M : Type 1} → statement M
 present-spec =

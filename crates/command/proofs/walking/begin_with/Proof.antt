@@ -3,6 +3,13 @@ use Rattle.command.proofs.Starting.{lent-length, front-length, lent-nea
 use Rattle.command.proofs.walking.begin_with.Statement.{statement}
 use Rattle.command.proofs.walking.begin_with.Tie as tie
 
+-- the places before `plan`, as they are seen behind it
+abbrev at-smaller : tie.After-plan → tie.After-smaller
+at-smaller c = c .before .before .before
+
+abbrev start : tie.After-plan → tie.Start
+start c = at-smaller c .before .before .before .before
+
 smaller-requires : tie.Need-smaller-requires
 smaller-requires c κs = search needs
 
@@ -10,7 +17,7 @@ slice-relend-prefix-plan : tie.Need-slice-relend-prefix-plan
 slice-relend-prefix-plan c = search needs
 
 slice-aggregate-plan : tie.Need-slice-aggregate-plan
-slice-aggregate-plan c = lent-length _ _ _ (c .before .smaller .ensures)
+slice-aggregate-plan c = search lent-length
 
 plan-requires : tie.Need-plan-requires
 plan-requires c κs = search needs
@@ -25,23 +32,13 @@ slice-reshare-prefix-bound : tie.Need-slice-reshare-prefix-bound
 slice-reshare-prefix-bound c = search needs
 
 slice-aggregate-bound : tie.Need-slice-aggregate-bound
-slice-aggregate-bound c =
-    let at-plan = c .before .before .before .before .before .before .before in
-    let at-smaller = at-plan .before .before .before in
-    front-length _ _ _ (at-smaller .smaller .ensures) (at-plan .plan .last .1 .0) (at-plan .plan .kept .1 .0)
+slice-aggregate-bound c = search front-length
 
 sub-bound : tie.Need-sub-bound
-sub-bound c =
-    let at-plan = c .before .before .before .before .before .before .before in
-    let at-smaller = at-plan .before .before .before in
-    let args = at-smaller .before .before .before .before .args in
-    end-before _ _ (args .scratch .now) _ _ (at-smaller .smaller .ensures) (at-plan .plan .ensures .0)
-    (c .before .enum-told .given .1)
+sub-bound c = search end-before
 
 bound-requires : tie.Need-bound-requires
-bound-requires c κs =
-    let at-smaller = c .before .before .before .before .before .before .before .before .before .before in
-    lent-near _ _ _ _ (at-smaller .smaller .ensures) (at-smaller .before .before .before .before .pre)
+bound-requires c κs = search lent-near
 
 same-length : tie.Need-same-length
 same-length c = search needs
@@ -51,11 +48,9 @@ same-length-2 c = search needs
 
 returns : tie.Need-returns
 returns c =
-    let at-plan = c .before .before .before .before .before .before .before .before in
-    let at-smaller = at-plan .before .before .before in
-    let args = at-smaller .before .before .before .before .args in
-    let p = at-plan .plan .ensures in
-    start-ready _ _ (args .scratch .now) _ _ (at-smaller .smaller .ensures) (p .0)
+    let planned = c .before .before .before .before .before .before .before .before in
+    let p = planned .plan .ensures in
+    start-ready _ _ (start planned .args .scratch .now) _ _ (at-smaller planned .smaller .ensures) (p .0)
     (c .before .before .enum-told .given .1) (p .1 .0) (p .1 .1) (c .bound .ensures)
 
 same-length-3 : tie.Need-same-length-3
@@ -66,11 +61,9 @@ same-length-4 c = search needs
 
 returns-2 : tie.Need-returns-2
 returns-2 c =
-    let at-plan = c .before .before .before .before .before .before .before in
-    let at-smaller = at-plan .before .before .before in
-    let args = at-smaller .before .before .before .before .args in
-    let p = at-plan .plan .ensures in
-    start-refused _ _ (args .scratch .now) _ _ (at-smaller .smaller .ensures) (p .0)
+    let planned = c .before .before .before .before .before .before .before in
+    let p = planned .plan .ensures in
+    start-refused _ _ (start planned .args .scratch .now) _ _ (at-smaller planned .smaller .ensures) (p .0)
     (c .before .planned .given .1) (p .1 .0) (p .1 .1)
 
 pub begin-with-spec : {M : Type 1} → statement M

@@ -1,11 +1,6 @@
-use mathlib.Core.Path.{_≡_, sym}
-use native.Mathlib.Omega.{arith}
-use lib.ListN.{length}
-use lib.Seq.{length-take-le}
-use Rattle.plan.proofs.SheetGroups.{few-machines, machines-fit}
-use Rattle.plan.proofs.SheetLength.{numbers-are}
-use Rattle.picture.proofs.SheetDrawn.{count-fits, drawn-shows, drawn-picture}
 use borrow.Author.Needs.{needs}
+use Rattle.picture.proofs.SheetDrawn.{machines-inside, machines-counted, machines-few, groups-inside}
+use Rattle.picture.proofs.SheetDrawn.{groups-counted, groups-shown, picture-shown}
 use Rattle.picture.proofs.graph.draw_read.Statement.{statement}
 use Rattle.picture.proofs.graph.draw_read.Tie as tie
 
@@ -16,68 +11,41 @@ ordered-requires : tie.Need-ordered-requires
 ordered-requires c κs = search needs
 
 array-share-prefix-numbers : tie.Need-array-share-prefix-numbers
-array-share-prefix-numbers c =
-    let long : length (c .before .ordered .result) ≡ 64 = search needs in
-    omega (arith, machines-fit (c .before .before .before .before .before .pre))
+array-share-prefix-numbers c = search (machines-inside, needs)
 
 slice-aggregate-count : tie.Need-slice-aggregate-count
-slice-aggregate-count c =
-    let long : length (c .before .before .ordered .result) ≡ 64 = search needs in
-    sym (length-take-le _ _ (omega (arith, machines-fit (c .before .before .before .before .before .before .pre))))
+slice-aggregate-count c = search (machines-counted, needs)
 
 count-requires : tie.Need-count-requires
-count-requires c κs =
-    omega (arith, slice-aggregate-count c, few-machines (c .before .before .before .before .before .before .pre))
+count-requires c κs = search (machines-few, needs)
 
 array-share-prefix-numbers-2 : tie.Need-array-share-prefix-numbers-2
-array-share-prefix-numbers-2 c =
-    let long : length (c .before .before .before .before .ordered .result) ≡ 64 = search needs in
-    omega (arith, machines-fit (c .before .before .before .before .before .before .before .before .pre))
+array-share-prefix-numbers-2 c = search (machines-inside, needs)
 
 slice-aggregate-write-text : tie.Need-slice-aggregate-write-text
-slice-aggregate-write-text c =
-    let at-ordered = c .before .before .before .before .before in
-    let long : length (at-ordered .ordered .result) ≡ 64 = search needs in
-    sym (length-take-le _ _ (omega (arith, machines-fit (at-ordered .before .before .before .before .pre))))
+slice-aggregate-write-text c = search (machines-counted, needs)
 
 array-share-prefix-targets : tie.Need-array-share-prefix-targets
-array-share-prefix-targets c =
-    let at-ordered = c .before .before .before .before .before in
-    let i = at-ordered .before .before .before .before .pre .1 in
-    let told = at-ordered .ordered .ensures in
-    let counted = c .before .before .count .ensures in
-    count-fits i (numbers-are i _ (told .0 _ i)) (told .1 _ i) (at-ordered .ordered .kept .1 .1 .0) counted
+array-share-prefix-targets c = search groups-inside
 
 slice-aggregate-write-text-2 : tie.Need-slice-aggregate-write-text-2
-slice-aggregate-write-text-2 c =
-    let at-ordered = c .before .before .before .before .before .before in
-    let i = at-ordered .before .before .before .before .pre .1 in
-    let told = at-ordered .ordered .ensures in
-    let counted = c .before .before .before .count .ensures in
-    sym (length-take-le _ _
-    (count-fits i (numbers-are i _ (told .0 _ i)) (told .1 _ i) (at-ordered .ordered .kept .1 .1 .0) counted))
+slice-aggregate-write-text-2 c = search groups-counted
 
 write-text-requires : tie.Need-write-text-requires
-write-text-requires c κs =
-    let at-ordered = c .before .before .before .before .before .before in
-    let i = at-ordered .before .before .before .before .pre .1 in
-    let told = at-ordered .ordered .ensures in
-    let counted = c .before .before .before .count .ensures in
-    drawn-shows i (numbers-are i _ (told .0 _ i)) (told .1 _ i) (at-ordered .ordered .kept .1 .1 .0) counted
+write-text-requires c κs = search groups-shown
 
 same-length : tie.Need-same-length
 same-length c = search needs
 
 returns : tie.Need-returns
 returns c =
-    let ordered = c .before .before .before .before .before .before .before .before .before .ordered in
+    let at-text = c .before .before in
+    let at-count = at-text .before .before .before .before in
+    let ordered = at-count .before .before .before .ordered in
     let told = ordered .ensures in
-    let long = ordered .kept .1 .1 .0 in
-    let drawn = c .before .before .write-text .ensures in
-    let counted = c .before .before .before .before .before .before .count .ensures in (
-      λ m i. rw (drawn-picture i (numbers-are i _ (told .0 m i)) (told .1 m i) long counted) at (drawn .0),
-      λ m i. rw (drawn-picture i (numbers-are i _ (told .0 m i)) (told .1 m i) long counted) at (drawn .1),
-    )
+    let shows = picture-shown _ (told .0) (told .1) (ordered .kept .1 .1 .0) (at-count .count .ensures) in
+    let wrote = at-text .write-text .ensures in
+    (λ m i. rw (shows m i) at (wrote .0), λ m i. rw (shows m i) at (wrote .1))
 
 pub draw-read-spec : {M : Type 1} → statement M
 draw-read-spec =

@@ -4,29 +4,20 @@ use Rattle.picture.proofs.ReadShown.{not-read, shown-judged, shown-read
 use borrow.Author.Needs.{needs}
 use Rattle.picture.proofs.graph.read_matched.Statement.{statement}
 use Rattle.picture.proofs.graph.read_matched.Tie as tie
-use Rattle.picture.proofs.graph.read_matched.Reads as reads
-use Rattle.picture.proofs.graph.read_matched.Lts as lts
-use Rattle.picture.proofs.graph.write_bytes.Reads as write-bytes-reads
-use Rattle.picture.proofs.turns.all_in_turn.Reads as all-in-turn-reads
 
--- src/graph.rt:122:9
 all-in-turn-requires : tie.Need-all-in-turn-requires
 all-in-turn-requires c κs = search needs
 
--- src/graph.rt:123:9
 returns : tie.Need-returns
 returns c = let start = c .before .before .before .before .before .before in
     not-read _ _ (shown-judged (start .pre) ∙ sym (c .before .all-in-turn .ensures) ∙ not-true _ (c .if1 .taken))
 
--- src/graph.rt:125:5
 write-bytes-requires : tie.Need-write-bytes-requires
 write-bytes-requires c κs = c .before .before .before .before .before .before .before .pre .shows
 
--- src/graph.rt:116:1
 same-length : tie.Need-same-length
 same-length c = search needs
 
--- src/graph.rt:116:1
 returns-2 : tie.Need-returns-2
 returns-2 c = let start = c .before .before .before .before .before .before .before .before .before .before in
     let turns = sym (c .before .before .before .before .before .all-in-turn .ensures) ∙ not-false _

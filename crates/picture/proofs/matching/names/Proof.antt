@@ -3,24 +3,16 @@ use Rattle.picture.proofs.Opening.{no-name, name-here, name-start-room}
 use borrow.Author.Needs.{needs}
 use Rattle.picture.proofs.matching.names.Statement.{statement}
 use Rattle.picture.proofs.matching.names.Tie as tie
-use Rattle.picture.proofs.matching.names.Reads as reads
-use Rattle.picture.proofs.matching.names.Lts as lts
-use Rattle.decimal.proofs.stands.Reads as stands-reads
-use Rattle.decimal.proofs.text.stands.Reads as text-stands-reads
 
--- src/matching.rt:103:22
 slice-aggregate-stands : tie.Need-slice-aggregate-stands
 slice-aggregate-stands c = search needs
 
--- src/matching.rt:103:5
 stands-requires : tie.Need-stands-requires
 stands-requires c κs = search needs
 
--- src/matching.rt:103:55
 add-stands : tie.Need-add-stands
 add-stands c = search needs
 
--- src/matching.rt:103:33
 stands-requires-2 : tie.Need-stands-requires-2
 stands-requires-2 c κs = let start = c .before .before .before .before in (
   name-start-room (start .args .text .now) (start .args .at) (start .args .k) (start .pre .0)
@@ -28,13 +20,11 @@ stands-requires-2 c κs = let start = c .before .before .before .before in (
   start .pre .1,
 )
 
--- src/matching.rt:99:1
 returns : tie.Need-returns
 returns c = let start = c .before .before .before .before .before in
     name-here (start .args .text .now) (start .args .at) (start .args .k)
     (sym (c .before .before .stands .ensures) ∙ c .before .if1 .taken) (c .stands2 .ensures)
 
--- src/matching.rt:99:1
 returns-2 : tie.Need-returns-2
 returns-2 c = let start = c .before .before .before .before in
     c .if1 .left ∙ no-name (start .args .text .now) (start .args .at) (start .args .k)

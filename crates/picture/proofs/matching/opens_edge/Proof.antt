@@ -4,45 +4,32 @@ use Rattle.picture.proofs.Opening.{other-line, name-room, line-here}
 use borrow.Author.Needs.{needs}
 use Rattle.picture.proofs.matching.opens_edge.Statement.{statement}
 use Rattle.picture.proofs.matching.opens_edge.Tie as tie
-use Rattle.picture.proofs.matching.opens_edge.Reads as reads
-use Rattle.picture.proofs.matching.opens_edge.Lts as lts
-use Rattle.decimal.proofs.text.stands.Reads as stands-reads
-use Rattle.decimal.proofs.width.Reads as width-reads
-use Rattle.picture.proofs.matching.names.Reads as names-reads
 
--- src/matching.rt:126:9
 names-requires : tie.Need-names-requires
 names-requires c κs = search needs
 
--- src/matching.rt:127:9
 returns : tie.Need-returns
 returns c = let start = c .before .before .before in
     other-line (start .args .text .now) (start .args .at) (start .args .a) _
     (sym (c .before .names .ensures) ∙ not-true _ (c .if1 .taken))
 
--- src/matching.rt:129:18
 add-stands : tie.Need-add-stands
 add-stands c = search needs
 
--- src/matching.rt:129:27
 width-requires : tie.Need-width-requires
 width-requires c κs = search needs
 
--- src/matching.rt:129:18
 add-stands-2 : tie.Need-add-stands-2
 add-stands-2 c = search needs
 
--- src/matching.rt:129:46
 slice-aggregate-stands : tie.Need-slice-aggregate-stands
 slice-aggregate-stands c = search needs
 
--- src/matching.rt:129:5
 stands-requires : tie.Need-stands-requires
 stands-requires c κs = let start = c .before .before .before .before .before in
     name-room (start .args .text .now) (start .args .at) (start .args .a) (c .before .width .ensures .0) (start .pre .0)
     (sym (c .before .before .before .names .ensures) ∙ not-false _ (c .before .before .if1 .left))
 
--- src/matching.rt:122:1
 returns-2 : tie.Need-returns-2
 returns-2 c = let start = c .before .before .before .before .before .before in
     line-here (start .args .text .now) (start .args .at) (start .args .a) (c .before .before .width .ensures .0) _

@@ -1,8 +1,5 @@
 use Prim.Native.Nat.{_-_}
-use mathlib.Core.Path.{refl}
-use native.Mathlib.Omega.{arith}
 use borrow.Author.Needs.{needs}
-use borrow.Author.Tests.{not-true, not-false}
 use lib.ListN.{length}
 use Rattle.picture.proofs.EdgeTable.{EdgesUpto, edges-none, edges-end, edges-stop, edges-next}
 use Rattle.picture.proofs.matching.read_edges.Statement.{statement}
@@ -15,42 +12,22 @@ abbrev μ-loop : tie.MeasureT-loop
 μ-loop text at count targets₀ end₀ a₀ targets end a = count - a
 
 loop-holds : tie.Need-loop-holds Inv-loop μ-loop
-loop-holds c = edges-none _ _ _ refl (c .before .before .pre .0)
+loop-holds c = search edges-none
 
 read-row-requires : tie.Need-read-row-requires Inv-loop μ-loop
-read-row-requires c κs =
-    let start = c .before .before .before .before in (
-      c .before .loop .inv .stand .spans .inside,
-      omega (arith, start .pre .1, c .loop-test .taken),
-      omega
-          (arith, start .pre .1),
-    )
+read-row-requires c κs = (search needs, search needs, search needs)
 
 same-length : tie.Need-same-length Inv-loop μ-loop
-same-length c = c .before .before .before .before .loop .inv .room
+same-length c = search needs
 
 returns : tie.Need-returns Inv-loop μ-loop
-returns c =
-    edges-stop _ _ _ (c .before .before .before .before .loop .inv) (c .before .before .before .loop-test .taken)
-    (c .before .before .before .before .before .before .before .pre .1) (c .before .before .read-row .ensures) _
-    (not-true _ (c .if1 .taken))
+returns c = search edges-stop
 
 mul-targets : tie.Need-mul-targets Inv-loop μ-loop
-mul-targets c =
-    omega (
-      arith,
-      c .before .before .before .loop-test .taken,
-      c .before .before .before .before .before .before .before .pre .1,
-    )
+mul-targets c = search needs
 
 slice-write-targets : tie.Need-slice-write-targets Inv-loop μ-loop
-slice-write-targets c =
-    omega (
-      arith,
-      c .before .before .before .loop-test .taken,
-      c .before .before .before .before .before .before .before .pre .2,
-      c .before .before .before .before .loop .inv .room,
-    )
+slice-write-targets c = search needs
 
 add-a : tie.Need-add-a Inv-loop μ-loop
 add-a c = search needs
@@ -59,16 +36,13 @@ loop-less : tie.Need-loop-less Inv-loop μ-loop
 loop-less c = search needs
 
 loop-again : tie.Need-loop-again Inv-loop μ-loop
-loop-again c =
-    edges-next _ _ _ (c .before .before .before .before .loop .inv) (c .before .before .before .loop-test .taken)
-    (c .before .before .before .before .before .before .before .pre .1) (c .before .before .read-row .ensures)
-    (not-false _ (c .if1 .left)) (c .before .before .before .before .before .before .before .pre .2)
+loop-again c = search edges-next
 
 same-length-2 : tie.Need-same-length-2 Inv-loop μ-loop
-same-length-2 c = c .before .loop .inv .room
+same-length-2 c = search needs
 
 returns-2 : tie.Need-returns-2 Inv-loop μ-loop
-returns-2 c = edges-end _ _ _ (c .before .loop .inv) (c .loop-test .left)
+returns-2 c = search edges-end
 
 pub read-edges-spec : {M : Type 1} → statement M
 read-edges-spec =

@@ -1,11 +1,8 @@
 use Prim.Native.Nat.{_-_}
-use mathlib.Core.Path.{sym, _∙_}
-use native.Mathlib.Omega.{arith}
 use borrow.Author.Needs.{needs}
-use borrow.Author.Tests.{not-true, not-false}
 use lib.ListN.{length}
-use Rattle.picture.proofs.LabelLoop.{LabelUpto, label-none, label-inside, label-stops, label-longer, label-next}
-use Rattle.picture.proofs.LabelLoop.{label-other, label-ends}
+use Rattle.picture.proofs.LabelLoop.{LabelUpto, label-none, label-room, label-onward, label-stops, label-small}
+use Rattle.picture.proofs.LabelLoop.{label-less, label-next, label-other, label-behind, label-ends}
 use Rattle.picture.proofs.matching.read_label.Statement.{statement}
 use Rattle.picture.proofs.matching.read_label.Tie as tie
 
@@ -16,69 +13,43 @@ abbrev μ-loop : tie.MeasureT-loop
 μ-loop text at machines₀ end₀ more₀ t7 machines end more = length text - end
 
 loop-holds : tie.Need-loop-holds Inv-loop μ-loop
-loop-holds c = label-none _ _ (c .before .pre)
+loop-holds c = search label-none
 
 add-number-above : tie.Need-add-number-above Inv-loop μ-loop
-add-number-above c =
-    omega (arith, label-inside _ _ (c .before .loop .inv) (c .loop-test .taken), c .before .before .before .good .0 .0)
+add-number-above c = search label-room
 
 number-above-requires : tie.Need-number-above-requires Inv-loop μ-loop
-number-above-requires c κs =
-    let inside = label-inside _ _ (c .before .loop .inv) (c .loop-test .taken) in
-    (omega arith, omega arith)
+number-above-requires c κs = (search label-onward, search needs)
 
 returns : tie.Need-returns Inv-loop μ-loop
-returns c =
-    label-stops _ _ (c .before .before .before .before .loop .inv) (c .before .before .before .loop-test .taken)
-    (c .before .before .number-above .ensures) _
-    (not-true _ (c .if1 .taken))
+returns c = search label-stops
 
 with-requires : tie.Need-with-requires Inv-loop μ-loop
-with-requires c κs =
-    let small = c .before .before .number-above .ensures .below (not-false _ (c .if1 .left)) in
-    omega arith
+with-requires c κs = search label-small
 
 has-requires : tie.Need-has-requires Inv-loop μ-loop
 has-requires c κs = search needs
 
 loop-less : tie.Need-loop-less Inv-loop μ-loop
-loop-less c =
-    let longer = label-longer _ _ (c .before .before .before .before .before .before .loop .inv)
-    (c .before .before .before .before .before .loop-test .taken)
-    (c .before .before .before .before .number-above .ensures)
-    (not-false _ (c .before .before .if1 .left)) in
-    omega (arith, longer .0, longer .1)
+loop-less c = search label-less
 
 loop-again : tie.Need-loop-again Inv-loop μ-loop
-loop-again c =
-    label-next _ _ (c .before .before .before .before .before .before .loop .inv)
-    (c .before .before .before .before .before .loop-test .taken)
-    (c .before .before .before .before .number-above .ensures)
-    (not-false _ (c .before .before .if1 .left)) (c .before .with .ensures) (c .has .ensures)
+loop-again c = search label-next
 
 slice-aggregate-stands : tie.Need-slice-aggregate-stands Inv-loop μ-loop
 slice-aggregate-stands c = search needs
 
 stands-requires : tie.Need-stands-requires Inv-loop μ-loop
-stands-requires c κs = c .before .before .loop .inv .spans .inside
+stands-requires c κs = search needs
 
 returns-2 : tie.Need-returns-2 Inv-loop μ-loop
-returns-2 c =
-    label-other _ _ (c .before .before .before .before .loop .inv) (c .before .before .before .loop-test .left) _
-    (sym (c .before .stands .ensures) ∙ not-true _ (c .if2 .taken))
+returns-2 c = search label-other
 
 add-t14 : tie.Need-add-t14 Inv-loop μ-loop
-add-t14 c =
-    omega (
-      arith,
-      c .before .before .before .before .loop .inv .spans .inside,
-      c .before .before .before .before .before .before .good .0 .1,
-    )
+add-t14 c = search label-behind
 
 returns-3 : tie.Need-returns-3 Inv-loop μ-loop
-returns-3 c =
-    label-ends _ _ (c .before .before .before .before .loop .inv) (c .before .before .before .loop-test .left)
-    (sym (c .before .stands .ensures) ∙ not-false _ (c .if2 .left))
+returns-3 c = search label-ends
 
 pub read-label-spec : {M : Type 1} → statement M
 read-label-spec =

@@ -1,11 +1,8 @@
 use Prim.Native.Nat.{_-_}
-use mathlib.Core.Path.{sym, _∙_}
-use native.Mathlib.Omega.{arith}
 use borrow.Author.Needs.{needs}
-use borrow.Author.Tests.{not-true, not-false}
 use lib.ListN.{length}
-use Rattle.picture.proofs.EdgeLoop.{RowUpto, row-start, row-ends, row-inside, row-stops, row-longer, row-other}
-use Rattle.picture.proofs.EdgeLoop.{row-next}
+use Rattle.picture.proofs.EdgeLoop.{RowUpto, row-start, row-ends, row-inside, head-room, row-stops, row-other}
+use Rattle.picture.proofs.EdgeLoop.{row-small, row-within, row-room, row-less, row-next}
 use Rattle.picture.proofs.matching.read_row.Statement.{statement}
 use Rattle.picture.proofs.matching.read_row.Tie as tie
 
@@ -22,89 +19,43 @@ add-head : tie.Need-add-head Inv-loop μ-loop
 add-head c = search needs
 
 loop-holds : tie.Need-loop-holds Inv-loop μ-loop
-loop-holds c = row-start _ _ _ _ (c .before .before .pre .0)
+loop-holds c = search row-start
 
 opens-edge-requires : tie.Need-opens-edge-requires Inv-loop μ-loop
-opens-edge-requires c κs = (c .loop .inv .spans .inside, c .before .before .before .pre .1)
+opens-edge-requires c κs = (c .loop .inv .spans .inside, search needs)
 
 add-number-above : tie.Need-add-number-above Inv-loop μ-loop
-add-number-above c =
-    let inside = row-inside _ _ _ _ (c .before .before .loop .inv)
-    (sym (c .before .opens-edge .ensures) ∙ c .if1 .taken) (c .before .before .before .width .ensures .0) in
-    omega (arith, c .before .before .before .before .before .good .0 .0)
+add-number-above c = search head-room
 
 number-above-requires : tie.Need-number-above-requires Inv-loop μ-loop
-number-above-requires c κs = (
-  row-inside _ _ _ _ (c .before .before .loop .inv) (sym (c .before .opens-edge .ensures) ∙ c .if1 .taken)
-      (c .before .before .before .width .ensures .0),
-  c .before .before .before .before .before .pre .2,
-)
+number-above-requires c κs = (search row-inside, search needs)
 
 returns : tie.Need-returns Inv-loop μ-loop
-returns c =
-    row-stops _ _ _ _ (c .before .before .before .before .before .loop .inv)
-    (sym (c .before .before .before .before .opens-edge .ensures) ∙ c .before .before .before .if1 .taken)
-    (c .before .before .before .before .before .before .width .ensures .0) (c .before .before .number-above .ensures)
-    (c .before .before .before .before .before .before .before .before .pre .2) _ (not-true _ (c .if2 .taken))
+returns c = search row-stops
 
 slice-aggregate-stands : tie.Need-slice-aggregate-stands Inv-loop μ-loop
 slice-aggregate-stands c = search needs
 
 stands-requires : tie.Need-stands-requires Inv-loop μ-loop
-stands-requires c κs = c .before .before .before .number-above .ensures .spans (not-false _ (c .before .if2 .left)) .inside
+stands-requires c κs = search row-within
 
 returns-2 : tie.Need-returns-2 Inv-loop μ-loop
-returns-2 c =
-    row-other _ _ _ _ (c .before .before .before .before .before .before .before .before .loop .inv)
-    (sym (c .before .before .before .before .before .before .before .opens-edge .ensures) ∙
-    c .before .before .before .before .before .before .if1 .taken)
-    (c .before .before .before .before .before .before .before .before .before .width .ensures .0)
-    (c .before .before .before .before .before .number-above .ensures)
-    (c .before .before .before .before .before .before .before .before .before .before .before .pre .2) _
-    (sym (c .before .stands .ensures) ∙ not-true _ (c .if3 .taken))
+returns-2 c = search row-other
 
 with-requires : tie.Need-with-requires Inv-loop μ-loop
-with-requires c κs =
-    let small = c .before .before .before .before .before .number-above .ensures .below
-    (not-false _ (c .before .before .before .if2 .left)) in
-    omega (arith, c .before .before .before .before .before .before .before .before .before .before .before .pre .2)
+with-requires c κs = search row-small
 
 add-end : tie.Need-add-end Inv-loop μ-loop
-add-end c =
-    let found = c .before .before .before .before .before .before .before .number-above .ensures .spans
-    (not-false _ (c .before .before .before .before .before .if2 .left)) in
-    omega (
-      arith,
-      found .inside,
-      c .before .before .before .before .before .before .before .before .before .before .before .before .before .good .0 .1,
-    )
+add-end c = search row-room
 
 loop-less : tie.Need-loop-less Inv-loop μ-loop
-loop-less c =
-    let longer = row-longer _ _ _ _
-    (c .before .before .before .before .before .before .before .before .before .before .loop .inv)
-    (sym (c .before .before .before .before .before .before .before .before .before .opens-edge .ensures) ∙
-    c .before .before .before .before .before .before .before .before .if1 .taken)
-    (c .before .before .before .before .before .before .before .before .before .before .before .width .ensures .0)
-    (c .before .before .before .before .before .before .before .number-above .ensures)
-    (c .before .before .before .before .before .before .before .before .before .before .before .before .before .pre .2)
-    (not-false _ (c .before .before .before .before .before .if2 .left)) in
-    omega (arith, longer .0, longer .1)
+loop-less c = search row-less
 
 loop-again : tie.Need-loop-again Inv-loop μ-loop
-loop-again c =
-    row-next _ _ _ _ (c .before .before .before .before .before .before .before .before .before .before .loop .inv)
-    (sym (c .before .before .before .before .before .before .before .before .before .opens-edge .ensures) ∙
-    c .before .before .before .before .before .before .before .before .if1 .taken)
-    (c .before .before .before .before .before .before .before .before .before .before .before .width .ensures .0)
-    (c .before .before .before .before .before .before .before .number-above .ensures)
-    (c .before .before .before .before .before .before .before .before .before .before .before .before .before .pre .2)
-    (not-false _ (c .before .before .before .before .before .if2 .left))
-    (sym (c .before .before .before .stands .ensures) ∙ not-false _ (c .before .before .if3 .left))
-    (c .before .with .ensures)
+loop-again c = search row-next
 
 returns-3 : tie.Need-returns-3 Inv-loop μ-loop
-returns-3 c = row-ends _ _ _ _ (c .before .before .loop .inv) (sym (c .before .opens-edge .ensures) ∙ c .if1 .left)
+returns-3 c = search row-ends
 
 pub read-row-spec : {M : Type 1} → statement M
 read-row-spec =

@@ -1,24 +1,21 @@
-use mathlib.Core.Path.{_≡_, sym, _∙_}
-use native.Mathlib.Omega.{arith}
-use borrow.Author.Tests.{not-true, not-false}
-use lib.ListN.{length}
-use Rattle.picture.proofs.ReadySets.{number-fits, turns-all}
-use Rattle.picture.proofs.TurnLoop.{TurnSets, sets-none, new-groups, set-turn, sets-next, sets-fail}
 use borrow.Author.Needs.{needs}
+use Rattle.picture.proofs.ReadySets.{number-fits, turns-all}
+use Rattle.picture.proofs.TurnLoop.{TurnSets, sets-none, groups-inside, sets-next, sets-fail}
 use Rattle.picture.proofs.turns.all_in_turn.Statement.{statement}
 use Rattle.picture.proofs.turns.all_in_turn.Tie as tie
 
 abbrev Inv-loop : tie.InvT-loop
-Inv-loop numbers targets machines waiting₀ later₀ held₀ k₀ waiting later held k = TurnSets numbers targets k waiting later held
+Inv-loop numbers targets machines waiting₀ later₀ held₀ k₀ waiting later held k =
+    TurnSets numbers targets k waiting later held
 
 abbrev μ-loop : tie.MeasureT-loop
 μ-loop numbers targets machines waiting₀ later₀ held₀ k₀ waiting later held k = k
 
 members-requires : tie.Need-members-requires Inv-loop μ-loop
-members-requires c κs = (c .before .before .pre .few-machines, number-fits (c .before .before .pre))
+members-requires c κs = (search needs, search number-fits)
 
 loop-holds : tie.Need-loop-holds Inv-loop μ-loop
-loop-holds c = sets-none (c .before .before .before .pre)
+loop-holds c = search sets-none
 
 sub-k : tie.Need-sub-k Inv-loop μ-loop
 sub-k c = search needs
@@ -54,18 +51,7 @@ slice-aggregate-machines-of : tie.Need-slice-aggregate-machines-of Inv-loop μ-l
 slice-aggregate-machines-of c = search needs
 
 machines-of-requires : tie.Need-machines-of-requires Inv-loop μ-loop
-machines-of-requires c κs =
-    let in-loop = c .before .before .before .before .before .before in
-    let start = in-loop .before .before .before .before .before in
-    let members = in-loop .before .before .members in
-    let long : length (members .result) ≡ 32 = search needs in
-    let new = c .before .before .before .before .minus .ensures in
-    λ g t.
-    omega (
-      arith,
-      long,
-      new-groups (start .pre) (members .ensures) (in-loop .before .loop .inv) (in-loop .loop-test .taken) new g t,
-    )
+machines-of-requires c κs = search (groups-inside, needs)
 
 join-requires-3 : tie.Need-join-requires-3 Inv-loop μ-loop
 join-requires-3 c κs = search needs
@@ -80,44 +66,16 @@ in-turn-requires : tie.Need-in-turn-requires Inv-loop μ-loop
 in-turn-requires c κs = search needs
 
 returns : tie.Need-returns Inv-loop μ-loop
-returns c =
-    let in-loop = c .before .before .before .before .before .before .before .before .before .before .before in
-    let start = in-loop .before .before .before .before .before in
-    let m = in-loop .before .before .members .ensures in
-    let u = in-loop .before .loop .inv in
-    let some = in-loop .loop-test .taken in
-    let new = c .before .before .before .before .before .before .before .before .before .minus .ensures in
-    let waiting = c .before .before .before .before .before .before .before .join .ensures in
-    let later = c .before .before .before .before .before .before .join2 .ensures in
-    let added = c .before .before .before .before .machines-of .ensures in
-    let held = c .before .before .before .join3 .ensures in
-    let ready = c .before .before .minus2 .ensures in
-    let turn =
-    set-turn (start .pre) m u some new waiting later added held ready (search needs) (c .before .in-turn .ensures) in
-    sets-fail (start .pre) m u some new waiting later added held (sym turn ∙ not-true _ (c .if1 .taken))
+returns c = search sets-fail
 
 loop-less : tie.Need-loop-less Inv-loop μ-loop
 loop-less c = search needs
 
 loop-again : tie.Need-loop-again Inv-loop μ-loop
-loop-again c =
-    let in-loop = c .before .before .before .before .before .before .before .before .before .before .before in
-    let start = in-loop .before .before .before .before .before in
-    let m = in-loop .before .before .members .ensures in
-    let u = in-loop .before .loop .inv in
-    let some = in-loop .loop-test .taken in
-    let new = c .before .before .before .before .before .before .before .before .before .minus .ensures in
-    let waiting = c .before .before .before .before .before .before .before .join .ensures in
-    let later = c .before .before .before .before .before .before .join2 .ensures in
-    let added = c .before .before .before .before .machines-of .ensures in
-    let held = c .before .before .before .join3 .ensures in
-    let ready = c .before .before .minus2 .ensures in
-    let turn =
-    set-turn (start .pre) m u some new waiting later added held ready (search needs) (c .before .in-turn .ensures) in
-    sets-next (start .pre) m u some new waiting later added held (sym turn ∙ not-false _ (c .if1 .left))
+loop-again c = search sets-next
 
 returns-2 : tie.Need-returns-2 Inv-loop μ-loop
-returns-2 c = turns-all _ _ (c .before .loop .inv .turns) (c .loop-test .left)
+returns-2 c = search turns-all
 
 pub all-in-turn-spec : {M : Type 1} → statement M
 all-in-turn-spec =

@@ -10,11 +10,6 @@ use Rattle.search.proofs.Gather.{Gathers, gathers-none, gathers-next, gathers-e
 use borrow.Author.Needs.{needs}
 use Rattle.picture.proofs.turns.machines_of.Statement.{statement}
 use Rattle.picture.proofs.turns.machines_of.Tie as tie
-use Rattle.picture.proofs.turns.machines_of.Reads as reads
-use Rattle.picture.proofs.turns.machines_of.Lts as lts
-use Rattle.sets.proofs.join.Reads as join-reads
-use Rattle.sets.proofs.lowest.Reads as lowest-reads
-use Rattle.sets.proofs.rest.Reads as rest-reads
 
 abbrev Inv-loop : tie.InvT-loop
 Inv-loop members groups rest₀ r₀ rest r = Gathers members groups rest r × ((g : _) → bit rest g ≡ true → bit groups g ≡ true)
@@ -22,41 +17,33 @@ Inv-loop members groups rest₀ r₀ rest r = Gathers members groups rest r × (
 abbrev μ-loop : tie.MeasureT-loop
 μ-loop members groups rest₀ r₀ rest r = length (elements rest)
 
--- src/turns.rt:23:5
 loop-holds : tie.Need-loop-holds Inv-loop μ-loop
 loop-holds c = (search gathers-none, λ g t. t)
 
--- src/turns.rt:24:13
 lowest-requires : tie.Need-lowest-requires Inv-loop μ-loop
 lowest-requires c κs = search needs
 
--- src/turns.rt:25:27
 mul-join : tie.Need-mul-join Inv-loop μ-loop
 mul-join c = let start = c .before .before .before .before in
     let member = least-member (c .before .before .loop .inv .0 .fits) (c .before .loop-test .taken) in
     let inside = start .pre _ (c .before .before .loop .inv .1 _ (ap (bit _) (c .lowest .ensures) ∙ member)) in
     omega (arith, inside, start .good .0 .0)
 
--- src/turns.rt:25:27
 shared-slice-read-join : tie.Need-shared-slice-read-join Inv-loop μ-loop
 shared-slice-read-join c =
     let member = least-member (c .before .before .before .loop .inv .0 .fits) (c .before .before .loop-test .taken) in
     c .before .before .before .before .before .pre _
     (c .before .before .before .loop .inv .1 _ (ap (bit _) (c .before .lowest .ensures) ∙ member))
 
--- src/turns.rt:25:9
 join-requires : tie.Need-join-requires Inv-loop μ-loop
 join-requires c κs = search needs
 
--- src/turns.rt:26:9
 rest-requires : tie.Need-rest-requires Inv-loop μ-loop
 rest-requires c κs = search needs
 
--- src/turns.rt:23:5
 loop-less : tie.Need-loop-less Inv-loop μ-loop
 loop-less c = search (taken-shorter, taken-rest)
 
--- src/turns.rt:23:5
 loop-again : tie.Need-loop-again Inv-loop μ-loop
 loop-again c = (
   search (gathers-next, taken-rest),
@@ -64,7 +51,6 @@ loop-again c = (
       (less-from _ _ g (ap (λ s. bit s g) (sym (c .rest .ensures)) ∙ t)),
 )
 
--- src/turns.rt:17:1
 returns : tie.Need-returns Inv-loop μ-loop
 returns c = gathers-end _ (c .before .loop .inv .0) (c .loop-test .left)
 

@@ -1,13 +1,14 @@
 use Prim.Native.Nat.{_-_}
 use lib.ListN.{length}
 use Rattle.plan.specs.Needs.{names}
-use Rattle.plan.proofs.NeedLoop.{PutUpto, put-none, put-next, put-end}
+use Rattle.sheet.proofs.NeedLoop.{NeedsUpto, needs-end}
+use Rattle.plan.proofs.PutLoop.{Puts, put-none, put-next}
 use borrow.Author.Needs.{needs}
 use Rattle.plan.proofs.grouping.named.Statement.{statement}
 use Rattle.plan.proofs.grouping.named.Tie as tie
 
 abbrev Inv-loop : tie.InvT-loop
-Inv-loop body r₀ at₀ r at = PutUpto (λ i. i) body r at
+Inv-loop body r₀ at₀ r at = NeedsUpto (Puts (λ i. i) r) body at
 
 abbrev μ-loop : tie.MeasureT-loop
 μ-loop body r₀ at₀ r at = length body - at
@@ -38,7 +39,7 @@ loop-again c = search put-next
 
 returns : tie.Need-returns Inv-loop μ-loop
 unfolding names
-returns c = record { bits = put-end _ _ (c .before .loop .inv) (c .loop-test .left) }
+returns c = record { bits = needs-end (c .before .loop .inv) (c .loop-test .left) .bits }
 
 pub named-spec : {M : Type 1} → statement M
 named-spec =

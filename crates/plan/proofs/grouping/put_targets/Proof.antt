@@ -1,6 +1,6 @@
-use Prim.Native.Nat.{_-_}
-use mathlib.Core.Path.{sym, ap, _∙_}
-use lib.ListN.{length}
+use Prim.Native.Nat.{_-_, _<_}
+use mathlib.Core.Path.{_≡_, sym, ap, _∙_}
+use lib.ListN.{length, getD}
 use native.Mathlib.Omega.{arith}
 use Rattle.plan.proofs.TargetLoops.{TargetsUpto, targets-none, target-fits, targets-below, targets-next}
 use Rattle.plan.proofs.TargetLoops.{targets-end}
@@ -14,8 +14,26 @@ Inv-loop next numbers n targets₀ i₀ targets i = TargetsUpto next numbers n i
 abbrev μ-loop : tie.MeasureT-loop
 μ-loop next numbers n targets₀ i₀ targets i = n - i
 
+abbrev start : tie.At-loop Inv-loop μ-loop → tie.Start Inv-loop μ-loop
+start c = c .before .before .before .before
+
+abbrev at-loop : tie.After-wide Inv-loop μ-loop → tie.At-loop Inv-loop μ-loop
+at-loop c = c .before .before .before
+
+abbrev at-wide : tie.After-slice-known3 Inv-loop μ-loop → tie.After-wide Inv-loop μ-loop
+at-wide c = c .before .before .before .before .before .before
+
+-- the group of the turn's machine
+
+number : (c : tie.After-wide Inv-loop μ-loop)
+    → c .wide .result ≡ getD (start (at-loop c) .args .numbers .now) (at-loop c .loop .i) 0
+number c = c .wide .ensures .0 ∙ c .before .group-of .ensures
+
+fits : (c : tie.After-wide Inv-loop μ-loop) → c .wide .result < 32
+fits c = target-fits _ _ _ (start (at-loop c) .pre .0) (c .before .before .loop-test .taken) (number c)
+
 loop-holds : tie.Need-loop-holds Inv-loop μ-loop
-loop-holds c = targets-none _ _ _ (c .before .before .before .pre .1)
+loop-holds c = search targets-none
 
 cast-t9 : tie.Need-cast-t9 Inv-loop μ-loop
 cast-t9 c = search needs
@@ -34,42 +52,25 @@ shared-slice-read-put-into c = search needs
 
 put-into-requires : tie.Need-put-into-requires Inv-loop μ-loop
 put-into-requires c κs =
-    let at-loop = c .before .before .before .before .before in
-    let needs = at-loop .before .before .before .before .pre .0 in
-    let number = c .before .before .wide .ensures .0 ∙ c .before .before .before .group-of .ensures in
-    let fits = target-fits _ _ _ needs (c .before .before .before .before .loop-test .taken) number in
-    (at-loop .loop .inv .long, needs .bytes, omega arith, targets-below _ _ _ needs _)
+    let wide = c .before .before in
+    let needs = start (at-loop wide) .pre .0 in
+    (at-loop wide .loop .inv .long, needs .bytes, omega (arith, fits wide), targets-below _ _ _ needs _)
 
 mul-without : tie.Need-mul-without Inv-loop μ-loop
 mul-without c = search needs
 
 slice-read-without : tie.Need-slice-read-without Inv-loop μ-loop
 slice-read-without c =
-    let at-wide = c .before .before .before .before .before .before in
-    let in-loop = at-wide .before .before in
-    let number = at-wide .wide .ensures .0 ∙ at-wide .before .group-of .ensures in
-    let fits = target-fits _ _ _ (in-loop .before .before .before .before .before .pre .0) (in-loop .loop-test .taken) number in
-    omega (arith, fits, c .before .before .before .put-into .kept .0, in-loop .before .loop .inv .long)
+    omega (arith, fits (at-wide c), c .before .before .before .put-into .kept .0, at-loop (at-wide c) .loop .inv .long)
 
 without-requires : tie.Need-without-requires Inv-loop μ-loop
-without-requires c κs =
-    let at-wide = c .before .before .before .before .before .before in
-    let in-loop = at-wide .before .before in
-    let number = at-wide .wide .ensures .0 ∙ at-wide .before .group-of .ensures in
-    let fits = target-fits _ _ _ (in-loop .before .before .before .before .before .pre .0) (in-loop .loop-test .taken) number in
-    omega (arith, fits)
+without-requires c κs = omega (arith, fits (at-wide c))
 
 mul-targets : tie.Need-mul-targets Inv-loop μ-loop
 mul-targets c = search needs
 
 slice-write-targets : tie.Need-slice-write-targets Inv-loop μ-loop
-slice-write-targets c =
-    let put = c .before .before .before .before .put-into in
-    let at-wide = c .before .before .before .before .before .before .before in
-    let in-loop = at-wide .before .before in
-    let number = at-wide .wide .ensures .0 ∙ at-wide .before .group-of .ensures in
-    let fits = target-fits _ _ _ (in-loop .before .before .before .before .before .pre .0) (in-loop .loop-test .taken) number in
-    omega (arith, fits, put .kept .0, in-loop .before .loop .inv .long)
+slice-write-targets c = omega (arith, slice-read-without (c .before))
 
 add-i : tie.Need-add-i Inv-loop μ-loop
 add-i c = search needs
@@ -79,19 +80,16 @@ loop-less c = search needs
 
 loop-again : tie.Need-loop-again Inv-loop μ-loop
 loop-again c =
+    let wide = at-wide (c .before) in
     let put = c .before .before .before .before .put-into in
-    let at-wide = c .before .before .before .before .before .before .before in
-    let in-loop = at-wide .before .before in
-    let number = at-wide .wide .ensures .0 ∙ at-wide .before .group-of .ensures in
-    let fits = target-fits _ _ _ (in-loop .before .before .before .before .before .pre .0) (in-loop .loop-test .taken) number in
-    targets-next _ _ _ (in-loop .before .loop .inv) (in-loop .loop-test .taken) fits number (put .kept .0)
-    (rw (← at-wide .wide .ensures .0) at (put .ensures)) (c .without .ensures)
+    targets-next _ _ _ (at-loop wide .loop .inv) (wide .before .before .loop-test .taken) (fits wide) (number wide)
+    (put .kept .0) (rw (← wide .wide .ensures .0) at (put .ensures)) (c .without .ensures)
 
 same-length : tie.Need-same-length Inv-loop μ-loop
-same-length c = c .before .loop .inv .long ∙ sym (ap length (c .before .before .before .before .before .pre .1))
+same-length c = c .before .loop .inv .long ∙ sym (ap length (start (c .before) .pre .1))
 
 returns : tie.Need-returns Inv-loop μ-loop
-returns c = targets-end _ _ _ (c .before .loop .inv) (c .loop-test .left)
+returns c = search targets-end
 
 pub put-targets-spec : {M : Type 1} → statement M
 put-targets-spec =

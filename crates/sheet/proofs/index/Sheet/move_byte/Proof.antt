@@ -11,14 +11,16 @@ place-requires c κs = search needs
 add-byte-at : tie.Need-add-byte-at
 add-byte-at c = search needs
 
+add-byte-at-2 : tie.Need-add-byte-at-2
+add-byte-at-2 c = search needs
+
 byte-at-requires : tie.Need-byte-at-requires
 byte-at-requires c κs = search needs
 
 returns : tie.Need-returns
 returns c =
-    c .byte-at .ensures ∙ ap
-    (λ b. byte (c .before .before .before .args .s .now) (b + c .before .before .before .args .n))
-    (c .before .place .ensures .0)
+    let start = c .before .before .before in
+    c .byte-at .ensures ∙ ap (λ b. byte (start .args .s .now) (b + 4 + start .args .n)) (c .before .place .ensures .0)
 
 pub move-byte-spec : {M : Type 1} → statement M
-move-byte-spec = tie.close (tie.spec place-requires add-byte-at byte-at-requires returns)
+move-byte-spec = tie.close (tie.spec place-requires add-byte-at add-byte-at-2 byte-at-requires returns)

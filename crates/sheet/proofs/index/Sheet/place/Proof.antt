@@ -12,7 +12,7 @@ wide-requires c κs = search needs
 
 returns : tie.Need-returns
 returns c = (
-  past-array (c .before .before .args .t1 .bodies) 250 _ (search needs) (c .before .wide .ensures .0)
+  past-array (c .before .before .args .t1 .places) 250 _ (search needs) (c .before .wide .ensures .0)
       (c .if1 .taken),
   search needs,
 )
@@ -28,8 +28,8 @@ cast-result c = search needs
 
 returns-2 : tie.Need-returns-2
 returns-2 c = (
-  ap (λ i. getD (c .before .before .before .args .t1 .bodies) i 0) (c .before .before .wide .ensures .0),
-  (let f : Fits w16 (getD (c .before .before .before .args .t1 .bodies)
+  ap (λ i. getD (c .before .before .before .args .t1 .places) i 0) (c .before .before .wide .ensures .0),
+  (let f : Fits w16 (getD (c .before .before .before .args .t1 .places)
       (c .before .before .wide .result) 0) = search needs in f .fits),
 )
 
