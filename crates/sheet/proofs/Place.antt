@@ -23,8 +23,7 @@ use Rattle.sheet.proofs.Parsed.{Sound, sound-start, sound-turn, sound-s
 
 -- a refusal's number is one of 1 to 8, and its place in the file or just behind it
 pub record Listed (s : List ℕ) (n p : ℕ) : Type 0 where
-  pub from-one : 1 ≤ n
-  pub to-eight : n ≤ 8
+  pub number : (1 ≤ n) × (n ≤ 8)
   pub inside : p ≤ length s
   pub near : p ≤ 6196
 
@@ -75,7 +74,7 @@ module _ (s : List ℕ) {n p : ℕ} (q : parse s ≡ refused n p) where
       stopped-listed s n p (subst (Stopped s (Sound s)) q r)
 
   pub refusal-number : (1 ≤ n) × (n ≤ 8)
-  refusal-number = (parse-listed .from-one, parse-listed .to-eight)
+  refusal-number = parse-listed .number
 
   pub refusal-place : p ≤ length s
   refusal-place = parse-listed .inside
