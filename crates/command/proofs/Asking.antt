@@ -46,7 +46,7 @@ module _ (m : Model) (plan state goal : List ℕ) where
       unless-append-clear (stateFaults m state ++ goalFaults m goal) _ r
       (clear-append (stateFaults m state) (goalFaults m goal) ∙ and-intro state-good goal-good)
 
--- a call whose sheet passes 1 to 8
+-- a call whose sheet passes
 module _ (sheet plan state goal : List ℕ) (d : Parsed) (parses : parse sheet ≡ given d) where
   pub misshapen-reply : wellShaped (d .model) plan ≡ false → nextReply sheet plan state goal ≡ refused 15 0
   unfolding nextReply misshapen andThen
@@ -59,7 +59,7 @@ module _ (sheet plan state goal : List ℕ) (d : Parsed) (parses : parse sheet �
   unfolding nextReply misshapen andThen
   shaped-reply t = rw parses (unless-later _ _ _ (not-of-true t))
 
--- a call that passes 1 to 8, 15, 13 and 14
+-- a call that passes 1 to 8 and 21, 15, 13 and 14
 module _ (sheet plan state goal : List ℕ) (d : Parsed) (parses : parse sheet ≡ given d)
     (shaped : wellShaped (d .model) plan ≡ true)
     (state-good : clear (stateFaults (d .model) state) ≡ true)

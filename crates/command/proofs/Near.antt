@@ -1,4 +1,4 @@
--- Every refusal of next command or of applying has a number that is not 0 and a place of at most 6,196.
+-- Every refusal of next command or of applying has a number that is not 0 and a place of two bytes.
 -- Assumes nothing.
 use Prim.Native.Nat.{ℕ, zero, suc, _≤_, _<_}
 use mathlib.Core.Path.{_≡_, subst}

@@ -51,7 +51,7 @@ abbrev pub appliedBy : Model → List ℕ → ℕ → ℕ → Applied
 appliedBy m state machine command =
     record { move = actingMove m state machine command; state = stateBy m state machine command }
 
--- the reply of applying a command: tests 1 to 8, then 13
+-- the reply of applying a command: tests 1 to 8 and 21, then 13
 unfoldable pub applyReply : List ℕ → List ℕ → ℕ → ℕ → Reply Applied
 applyReply sheet state machine command =
     andThen (parse sheet) (λ d.

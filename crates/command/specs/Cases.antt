@@ -9,9 +9,9 @@ use Rattle.common.specs.Graph.{successors, marked, single, grown, layersFrom, l
 use Rattle.common.specs.Lists.{upTo, all, any, filter, position, find, sum, product, maximum}
 use Rattle.common.specs.Reply.{Reply, given, refused, clear, unless, andThen}
 use Rattle.sheet.specs.Record.{word, recordAt, part, twoBytes, recordOf}
-use Rattle.sheet.specs.Model.{Model, moveOf, withMachine, withMove}
-use Rattle.sheet.specs.Faults.{wrongMoveLength, badMachine, badMove, badGuard, badGuards, sameMove, badCommand}
-use Rattle.sheet.specs.Faults.{machineFaults, moveFaults, endFaults, faultsOf}
+use Rattle.sheet.specs.Model.{Model, moveOf, sameMove, withMachine, withMove}
+use Rattle.sheet.specs.Faults.{wrongMoveLength, badMachine, badMove, badGuard, badGuards, badCommand}
+use Rattle.sheet.specs.Faults.{machineFaults, moveFaults, lateFaults, endFaults, faultsOf}
 use Rattle.sheet.specs.Parse.{extended, turnAt, parseFrom, parse}
 use Rattle.plan.specs.Needs.{names, needs, needGraph}
 use Rattle.plan.specs.Groups.{Grouping, groupCount, members, smallestMember, together, numbered, ready, withNumber, numberedUpto, groupsOf}
@@ -247,7 +247,7 @@ unfolding
     parsedIn modelIn costsOf bit beyond
     successors marked single grown layersFrom layers distancesTo distances between connected upTo all any filter
     position find sum product maximum clear unless andThen word recordAt part moveOf withMachine withMove
-    wrongMoveLength badMachine badMove badGuard badGuards sameMove badCommand machineFaults moveFaults endFaults
+    wrongMoveLength badMachine badMove badGuard badGuards sameMove badCommand machineFaults moveFaults lateFaults endFaults
     faultsOf extended turnAt parseFrom parse names needs needGraph groupCount members smallestMember together
     numbered ready withNumber numberedUpto groupsOf movesOf namesGroup namedOutside size weight modeNumber modeIn
     liveMode shifted meets leads landing endMode alwaysMet usable usableIn usableMoves moveGraph routesIn routesUpto starts entryOf

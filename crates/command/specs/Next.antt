@@ -99,7 +99,7 @@ goalRefusals m plan state goal = stateFaults m state ++ goalFaults m goal ++ cov
 unfoldable pub misshapen : Model → List ℕ → Bool
 misshapen m plan = not (wellShaped m plan)
 
--- the reply of next command: tests 1 to 8, 15, 13, 14, 16 to 18, then each entry followed
+-- the reply of next command: tests 1 to 8 and 21, 15, 13, 14, 16 to 18, then each entry followed
 unfoldable pub nextReply : List ℕ → List ℕ → List ℕ → List ℕ → Reply Next
 nextReply sheet plan state goal =
     andThen (parse sheet) (λ d.

@@ -9,7 +9,7 @@ use mathlib.Core.Bool.{Bool, true, false, not, _&&_, _||_, and-assoc, or-assoc}
 use native.Mathlib.Omega.{arith}
 use borrow.Author.Tests.{eq-eqb, ne-eqb}
 use lib.Dec.{eqb}
-use lib.ListN.{length}
+use lib.ListN.{length, take, drop}
 use Rattle.common.specs.Lists.{all, any, filter}
 use Rattle.common.proofs.Bools.{by-cases, true-false, false-of-not-true, and-intro, and-left, and-right}
 use Rattle.common.proofs.Bools.{or-left, or-right, or-false-left, or-false-right, not-of-false, not-of-true}
@@ -155,6 +155,18 @@ module _ {A : Type 0} (p q : A → Bool) where
   unfolding filter
   filter-cong [] h = refl
   filter-cong (x ∷ xs) h = rw (h x (head refl), filter-cong xs (λ y m. h y (tail m)))
+
+-- the image of the first n, and of the others
+module _ {A B : Type 0} (f : A → B) where
+  pub map-take : (n : ℕ) (xs : List A) → map f (take n xs) ≡ take n (map f xs)
+  map-take zero xs = refl
+  map-take (suc n) [] = refl
+  map-take (suc n) (x ∷ xs) = ap (_∷_ (f x)) (map-take n xs)
+
+  pub map-drop : (n : ℕ) (xs : List A) → map f (drop n xs) ≡ drop n (map f xs)
+  map-drop zero xs = refl
+  map-drop (suc n) [] = refl
+  map-drop (suc n) (x ∷ xs) = map-drop n xs
 
 pub map-cong : {A B : Type 0} (f g : A → B) (xs : List A) → ((x : A) → List·Memᴰ x xs → f x ≡ g x) → map f xs ≡ map g xs
 map-cong f g [] h = refl

@@ -1,13 +1,47 @@
--- What a call whose reply fits the lent buffer leaves in it.
+-- 12 of a call that writes a list, and what a call whose reply fits the lent buffer leaves in it.
 -- Assumes nothing.
 use Prim.Native.Nat.{ℕ, _+_, _-_, _≤_, _<_}
 use mathlib.Core.Path.{_≡_, refl, sym, ap, _∙_}
-use mathlib.Core.List.{List, _++_}
+use mathlib.Core.List.{List, [], _++_}
 use native.Mathlib.Omega.{arith}
+use borrow.Author.Tests.{ltb-false, lt-ltb, le-ltb}
 use lib.ListN.{length, getD, drop, length-append, length-drop, List·getD-append}
 use lib.Seq.{getD-append-add, getD-drop}
-use Rattle.common.specs.Reply.{Reply, given, refused, outputAfter}
+use Rattle.common.specs.Reply.{Reply, given, refused, unless, fitted, lengthOf, outputAfter}
+use Rattle.common.proofs.Reply.{unless-first, unless-later, given-clear, given-stays}
 use Rattle.common.specs.Meaning.{OutputLeft}
+
+abbrev pub WithinRoom : Reply (List ℕ) → ℕ → Type 0
+WithinRoom reply room = (out : List ℕ) → reply ≡ given out → length out ≤ room
+
+module _ (out : List ℕ) (room : ℕ) where
+  pub too-long : room < length out → fitted out room ≡ refused 12 0
+  unfolding fitted
+  too-long h = unless-first _ [] _ (lt-ltb room (length out) h)
+
+  pub short-enough : length out ≤ room → fitted out room ≡ given out
+  unfolding fitted unless
+  short-enough h = unless-later _ [] _ (le-ltb room (length out) h)
+
+  pub fitted-is : {made : List ℕ} → fitted out room ≡ given made → out ≡ made
+  unfolding fitted
+  fitted-is e = let same = given-stays _ (given out) e in cc
+
+  pub fitted-fits : WithinRoom (fitted out room) room
+  unfolding fitted
+  fitted-fits made e =
+      let (f, none) = given-clear _ (given out) e in
+      omega (arith, ltb-false room (length out) f, ap length (fitted-is e))
+
+module _ (out before : List ℕ) where
+  pub not-fitted : length before < length out
+      → (refused 12 0 ≡ lengthOf (fitted out (length before))) × (before ≡ outputAfter (fitted out (length before)) before)
+  not-fitted h = rw (too-long out (length before) h) (refl, refl)
+
+  pub fitted-left : {n : ℕ} {after : List ℕ} → n ≡ length out → length out ≤ length before
+      → after ≡ out ++ drop (length out) before
+      → (given n ≡ lengthOf (fitted out (length before))) × (after ≡ outputAfter (fitted out (length before)) before)
+  fitted-left e h p = rw (short-enough out (length before) h) (ap given e, p)
 
 -- a list before what stood behind it
 module _ (out before : List ℕ) where
@@ -24,9 +58,6 @@ module _ (out before : List ℕ) where
 
   whole : length out ≤ length before → length (out ++ drop (length out) before) ≡ length before
   whole h = omega (arith, length-append out (drop (length out) before), length-drop (length out) before)
-
-abbrev pub WithinRoom : Reply (List ℕ) → ℕ → Type 0
-WithinRoom reply room = (out : List ℕ) → reply ≡ given out → length out ≤ room
 
 module _ (before : List ℕ) where
   as-long : (reply : Reply (List ℕ)) → WithinRoom reply (length before)

@@ -5,7 +5,7 @@ use mathlib.Core.Path.{_≡_, refl, sym, ap, _∙_}
 use mathlib.Core.Logic.{_⊎_, inl, inr, ⊎-elim, ⊎-map}
 use mathlib.Core.List.{List, [], _∷_, _++_, map, List·Memᴰ, List·Memᴰ·head, List·Memᴰ·tail}
 use mathlib.Core.List.{List·Memᴰ·not-nil, List·Memᴰ·cases-cons, Memᴰ·map}
-use mathlib.Core.Bool.{Bool, true, false, _&&_}
+use mathlib.Core.Bool.{Bool, true, false, cond, _&&_}
 use native.Mathlib.Omega.{arith}
 use borrow.Author.Tests.{ltb-true}
 use lib.Dec.{ltb}
@@ -95,6 +95,24 @@ module _ {A : Type 0} where
 
   pub refused-cause : (fs : List Fault) (a : A) {n p : ℕ} → unless fs (given a) ≡ refused n p → CausedBy fs n p
   refused-cause fs a e = ⊎-elim (λ c. c) (λ c. absurd (given-not-refused (c .1))) (refused-ways fs (given a) e)
+
+-- causes one behind the other
+pub clear-left : (fs gs : List Fault) → Clear (fs ++ gs) → Clear fs
+clear-left [] gs h = tt
+clear-left (f ∷ fs) gs h = (h .0, clear-left fs gs (h .1))
+
+pub clear-right : (fs gs : List Fault) → Clear (fs ++ gs) → Clear gs
+clear-right [] gs h = h
+clear-right (f ∷ fs) gs h = clear-right fs gs (h .1)
+
+pub clear-both : (fs gs : List Fault) → Clear fs → Clear gs → Clear (fs ++ gs)
+clear-both [] gs h k = k
+clear-both (f ∷ fs) gs h k = (h .0, clear-both fs gs (h .1) k)
+
+pub unless-append : {A : Type 0} (fs gs : List Fault) (r : Reply A) → unless (fs ++ gs) r ≡ unless fs (unless gs r)
+unfolding unless
+unless-append [] gs r = refl
+unless-append (f ∷ fs) gs r = ap (λ l. cond (f .applies) (refused (f .number) (f .place)) l) (unless-append fs gs r)
 
 -- a cause refuses whatever there is to give
 pub refused-anyway : {A B : Type 0} (fs : List Fault) (a : A) (r : Reply B) {n p : ℕ}

@@ -2,7 +2,7 @@
 -- Assumes nothing.
 use Prim.Native.Nat.{ℕ, zero, suc, _≤_, _<_, zero-le, suc-le-suc}
 use mathlib.Core.Path.{_≡_, refl, sym, ap, _∙_}
-use mathlib.Core.List.{List, [], _∷_, List·Memᴰ, List·Memᴰ·head as head, List·Memᴰ·tail as tail}
+use mathlib.Core.List.{List, [], _∷_, _++_, List·Memᴰ, List·Memᴰ·head as head, List·Memᴰ·tail as tail}
 use mathlib.Core.Bool.{Bool, true, false, _&&_}
 use native.Mathlib.Nat.{not-suc-le-zero}
 use native.Mathlib.Omega.{arith}
@@ -67,6 +67,14 @@ module _ {A : Type 0} (p : A → Bool) where
   position-is xs i d h t before =
       let k : ¬ (position p xs < i) = λ l. true-false (position-holds xs d (omega arith)) (before (position p xs) l) in
       omega (arith, position-at-most xs i d t)
+
+  -- behind a list in which none is
+  pub position-split : (xs : List A) (y : A) (ys : List A) → any p xs ≡ false → p y ≡ true
+      → position p (xs ++ (y ∷ ys)) ≡ length xs
+  unfolding any
+  position-split [] y ys f t = position-here y ys t
+  position-split (x ∷ xs) y ys f t =
+      position-later x _ (or-false-left (p x) _ f) ∙ ap suc (position-split xs y ys (or-false-right (p x) _ f) t)
 
   pub find-first : (xs : List A) (d : A) → find p xs d ≡ getD xs (position p xs) d
   unfolding find position

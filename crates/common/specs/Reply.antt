@@ -2,6 +2,7 @@
 use Prim.Native.Nat.{ℕ}
 use mathlib.Core.List.{List, [], _∷_, _++_}
 use mathlib.Core.Bool.{Bool, cond, not}
+use lib.Dec.{ltb}
 use lib.ListN.{length, drop}
 use Rattle.common.specs.Lists.{all}
 
@@ -34,6 +35,10 @@ module _ {A : Type 0} where
   unfoldable pub andThen : {B : Type 0} → Reply A → (A → Reply B) → Reply B
   andThen (given a) f = f a
   andThen (refused number place) f = refused number place
+
+-- 12: a list does not fit the buffer that is lent for it
+unfoldable pub fitted : List ℕ → ℕ → Reply (List ℕ)
+fitted out room = unless (fault 12 0 (ltb room (length out)) ∷ []) (given out)
 
 -- a call that writes a list into a longer buffer: it replies the list's length
 abbrev pub lengthOf : Reply (List ℕ) → Reply ℕ

@@ -1,4 +1,4 @@
--- Bytes written one after the other, and the digits of a number written so.
+-- A byte written, and the digits of a number one after the other.
 -- Assumes nothing.
 use Prim.Native.Nat.{ℕ, zero, suc, _+_, _-_, _/_, _%_, _≤_, _<_}
 use mathlib.Core.Path.{_≡_, refl, ap, _∙_}
@@ -9,26 +9,12 @@ use borrow.Author.Tests.{lt-ltb, le-ltb}
 use lib.ListN.{length, set, length-append}
 use lib.Seq.{set-split}
 use Rattle.sheet.specs.Kept.Written.{written}
-use Rattle.sheet.proofs.Overwriting.{written-none, written-more}
+use Rattle.sheet.proofs.Pieces.{Puts, puts-none, puts-then}
 use Rattle.decimal.specs.Decimal.{digit, digits, decimal}
-
--- A call that writes a piece at a place, and gives the place behind it.
-abbrev pub Puts : List ℕ → ℕ → List ℕ → ℕ → List ℕ → Type 0
-Puts s at piece end out = (end ≡ at + length piece) × (out ≡ written at piece s)
 
 pub put-byte : (s : List ℕ) (at b : ℕ) → at < length s → Puts s at (b ∷ []) (at + 1) (set s at b)
 unfolding written
 put-byte s at b h = (refl, rw (add-one at) (set-split s at b h))
-
-pub puts-none : (s : List ℕ) (at : ℕ) → Puts s at [] at s
-puts-none s at = (omega arith, written-none at s)
-
--- a second piece behind the first
-pub puts-then : (s : List ℕ) (at : ℕ) (first second : List ℕ) {front out : List ℕ} {mid end : ℕ} → at ≤ length s
-    → Puts s at first mid front → Puts front mid second end out → Puts s at (first ++ second) end out
-puts-then s at first second room p q =
-    let longer = written-more at first s room second (p .0) in
-    (omega (arith, length-append first second, p .0, q .0), q .1 ∙ rw (p .1) longer)
 
 module _ (n : ℕ) where
   pub digits-none : {most : ℕ} → most ≡ 0 → digits most n ≡ []

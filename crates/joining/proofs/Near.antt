@@ -1,4 +1,4 @@
--- Every refusal of joining has a number that is not 0 and a place of at most 6,196.
+-- Every refusal of joining has a number that is not 0 and a place of two bytes.
 -- Assumes nothing.
 use Prim.Native.Nat.{ℕ, _≤_}
 use mathlib.Core.Path.{_≡_, subst}

@@ -1,4 +1,4 @@
--- What joining replies: 1 to 8 of the sheet, 14 of the slice and of the first goal that does not fit, 19, 12, or the goal.
+-- What joining replies: 1 to 8 and 21 of the sheet, 14 of the slice and of the first goal that does not fit, 19, 12, or the goal.
 -- Assumes nothing.
 use Prim.Native.Nat.{ℕ, _≤_, _<_}
 use mathlib.Core.Path.{_≡_, refl, sym, ap, _∙_}

@@ -7,9 +7,9 @@ use Rattle.common.specs.Bits.{bit, beyond}
 use Rattle.common.specs.Lists.{upTo, all, any, find, sum, maximum}
 use Rattle.common.specs.Reply.{Reply, given, refused, unless, andThen}
 use Rattle.sheet.specs.Record.{word, recordAt, part}
-use Rattle.sheet.specs.Model.{moveOf, withMachine, withMove}
-use Rattle.sheet.specs.Faults.{wrongMoveLength, badMachine, badMove, badGuard, badGuards, sameMove, badCommand}
-use Rattle.sheet.specs.Faults.{machineFaults, moveFaults, endFaults, faultsOf}
+use Rattle.sheet.specs.Model.{moveOf, sameMove, withMachine, withMove}
+use Rattle.sheet.specs.Faults.{wrongMoveLength, badMachine, badMove, badGuard, badGuards, badCommand}
+use Rattle.sheet.specs.Faults.{machineFaults, moveFaults, lateFaults, endFaults, faultsOf}
 use Rattle.sheet.specs.Parse.{extended, turnAt, parseFrom, parse}
 use Rattle.command.specs.Goal.{badByte, goalFaults}
 use Rattle.command.specs.Examples.{stove}
@@ -54,7 +54,7 @@ cooks =
 pub cooks-join : EachJoins cooks
 unfolding
     stove bit beyond upTo all any find sum maximum unless andThen word recordAt part moveOf withMachine withMove
-    wrongMoveLength badMachine badMove badGuard badGuards sameMove badCommand machineFaults moveFaults endFaults
+    wrongMoveLength badMachine badMove badGuard badGuards sameMove badCommand machineFaults moveFaults lateFaults endFaults
     faultsOf extended turnAt parseFrom parse badByte goalFaults goalsIn sharedModes longestGoal joined nothingShared noRoom
     sharedFaults eachFaults joinedReply joinReply
 cooks-join = refl

@@ -65,6 +65,6 @@ unfoldable pub joinedReply : Model → List ℕ → ℕ → Reply (List ℕ)
 joinedReply m lent room =
     andThen (goalsIn mostGoals lent) (λ goals. unless (eachFaults m goals ++ sharedFaults goals room) (given (joined goals)))
 
--- and 1 to 8 before them
+-- and 1 to 8 and 21 before them
 unfoldable pub joinReply : List ℕ → List ℕ → ℕ → Reply (List ℕ)
 joinReply sheet lent room = andThen (parse sheet) (λ d. joinedReply (d .model) lent room)

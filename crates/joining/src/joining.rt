@@ -1,4 +1,4 @@
-// Joining goals: tests 1 to 8, 14 of the slice and of each goal, 19 and 12, then writes the joined goal.
+// Joining goals: tests 1 to 8 and 21, 14 of the slice and of each goal, 19 and 12, then writes the joined goal.
 use crate::lent::check_each;
 use crate::lent::longest;
 use crate::lent::shared;

@@ -24,6 +24,7 @@ use Rattle.command.proofs.Applying.{applies-right}
 use Rattle.command.proofs.Near.{next-near}
 use Rattle.command.proofs.Tags.{sent-answered}
 use Rattle.command.proofs.Turns.{length-most}
+use Rattle.clean.proofs.Cleaned.{clean-near, read-alike}
 use Rattle.joining.proofs.Near.{join-near}
 use Rattle.joining.proofs.Written.{reply-short}
 use Rattle.picture.proofs.Near.{draw-near, read-near}
@@ -145,6 +146,7 @@ words-right sheet bytes =
           word-apart _ moveReply (λ n p. refl) (λ n p. effect-near sheet state i c)
           (λ e h. move-small e (effect-told sheet state i c e h));
       moves = λ state i c e h. rw h (move-apart e (effect-told sheet state i c e h));
+      cleans = λ room. tells-length _ (λ n p. clean-near sheet room) (λ out e. omega (arith, read-alike sheet room e .short));
       joins = λ goals room.
           tells-length _ (λ n p. join-near sheet goals room) (λ out e. omega (arith, reply-short sheet goals room e));
       draws = λ room. tells-length _ (λ n p. draw-near sheet room) (λ out e. omega (arith, drawn-most sheet room e));

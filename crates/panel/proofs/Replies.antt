@@ -36,6 +36,8 @@ use Rattle.command.specs.Next.{nextReply}
 use Rattle.command.specs.Apply.{applyReply, effectOf, effectReply}
 use Rattle.command.specs.Says.{adviceSays, changeSays}
 use Rattle.command.proofs.Near.{next-near, apply-near}
+use Rattle.clean.specs.Clean.{cleanReply}
+use Rattle.clean.proofs.Cleaned.{clean-near}
 use Rattle.joining.specs.Join.{joinReply}
 use Rattle.joining.proofs.Near.{join-near}
 use Rattle.picture.specs.Graph.{graphReply, readReply}
@@ -80,7 +82,7 @@ module _ (s : List ℕ) (r : Reading) (e : readingOf r ≡ indexReply (parse s))
     pub refused-word : 4294967296 * numberOf cause + place ≡ wordOf (sheetReply (parse s))
     refused-word = rw (refused-parse s r e a)
 
-    pub refused-near : place ≤ 6196
+    pub refused-near : place ≤ 65535
     refused-near = refusal-near s (refused-parse s r e a) .near
 
 -- a reply that is a length or a refusal
@@ -88,30 +90,34 @@ module _ (r : Length) (cause : Cause) (place : ℕ) (a : r ≡ Refused cause pla
   pub unmeasured-word : 4294967296 * numberOf cause + place ≡ wordOf (measuredOf r)
   unmeasured-word = ap (λ q. wordOf (measuredOf q)) (sym a)
 
-  pub unmeasured-near : ((number place : ℕ) → measuredOf r ≡ refused number place → place ≤ 6196) → place ≤ 6196
+  pub unmeasured-near : ((number place : ℕ) → measuredOf r ≡ refused number place → place ≤ 65535) → place ≤ 65535
   unmeasured-near near = near _ _ (ap measuredOf a)
 
 -- its place is near: of the plan's length
 pub measured-near : (s : List ℕ) (r : Length) → measuredOf r ≡ lengthReply s
-    → (number place : ℕ) → measuredOf r ≡ refused number place → place ≤ 6196
+    → (number place : ℕ) → measuredOf r ≡ refused number place → place ≤ 65535
 measured-near s r e number place a = length-near s (sym e ∙ a) .near
 
 -- and of a call that replies the length of what it writes
 output-near : (q : Reply (List ℕ)) → ((n p : ℕ) → q ≡ refused n p → Near n p) → (r : Length) → measuredOf r ≡ lengthOf q
-    → (number place : ℕ) → measuredOf r ≡ refused number place → place ≤ 6196
+    → (number place : ℕ) → measuredOf r ≡ refused number place → place ≤ 65535
 output-near q near r e number place a =
     near _ _ (refused-told lengthOf length (λ out. refl) (λ n p. refl) q (sym a ∙ e)) .near
 
+pub cleaned-near : (s : List ℕ) (room : ℕ) (r : Length) → measuredOf r ≡ lengthOf (cleanReply s room)
+    → (number place : ℕ) → measuredOf r ≡ refused number place → place ≤ 65535
+cleaned-near s room = output-near (cleanReply s room) (λ n p. clean-near s room)
+
 pub joined-near : (s lent : List ℕ) (room : ℕ) (r : Length) → measuredOf r ≡ lengthOf (joinReply s lent room)
-    → (number place : ℕ) → measuredOf r ≡ refused number place → place ≤ 6196
+    → (number place : ℕ) → measuredOf r ≡ refused number place → place ≤ 65535
 joined-near s lent room = output-near (joinReply s lent room) (λ n p. join-near s lent room)
 
 pub drawn-near : (s : List ℕ) (room : ℕ) (r : Length) → measuredOf r ≡ lengthOf (graphReply s room)
-    → (number place : ℕ) → measuredOf r ≡ refused number place → place ≤ 6196
+    → (number place : ℕ) → measuredOf r ≡ refused number place → place ≤ 65535
 drawn-near s room = output-near (graphReply s room) (λ n p. draw-near s room)
 
 pub shown-near : (text : List ℕ) (room : ℕ) (r : Length) → measuredOf r ≡ lengthOf (readReply text room)
-    → (number place : ℕ) → measuredOf r ≡ refused number place → place ≤ 6196
+    → (number place : ℕ) → measuredOf r ≡ refused number place → place ≤ 65535
 shown-near text room = output-near (readReply text room) (λ n p. read-near text room)
 
 module _ (s : List ℕ) (buffer scratch : ℕ) (r : Planned) (e : plannedOf r ≡ toldOf (planReply s buffer scratch)) where
@@ -130,7 +136,7 @@ module _ (s : List ℕ) (buffer scratch : ℕ) (r : Planned) (e : plannedOf r �
     pub unplanned-word : 4294967296 * numberOf cause + place ≡ wordOf (doneReply (planReply s buffer scratch))
     unplanned-word = rw unplanned
 
-    pub unplanned-near : place ≤ 6196
+    pub unplanned-near : place ≤ 65535
     unplanned-near = plan-near s buffer scratch unplanned .near
 
 module _ (s plan state goal : List ℕ) (r : Advice) (e : adviceSays r ≡ nextReply s plan state goal) where
@@ -151,7 +157,7 @@ module _ (s plan state goal : List ℕ) (r : Advice) (e : adviceSays r ≡ nextR
     pub unadvised-word : 4294967296 * numberOf cause + place ≡ adviceWord
     unadvised-word = ap (λ q. wordOf (commandReply q)) unadvised
 
-    pub unadvised-near : place ≤ 6196
+    pub unadvised-near : place ≤ 65535
     unadvised-near = next-near s plan state goal (sym unadvised) .near
 
 -- a refusal of applying is near, also where the state is not told
@@ -179,5 +185,5 @@ module _ (s state : List ℕ) (machine byte : ℕ) (r : Change)
     pub unapplied-word : 4294967296 * numberOf cause + place ≡ moveWord
     unapplied-word = ap (λ q. wordOf (moveReply q)) unapplied
 
-    pub unapplied-near : place ≤ 6196
+    pub unapplied-near : place ≤ 65535
     unapplied-near = effect-near s state machine byte (sym unapplied) .near

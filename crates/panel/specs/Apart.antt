@@ -12,6 +12,7 @@ use Rattle.sheet.specs.Parse.{Parsed, parse}
 use Rattle.plan.specs.Planning.{lengthReply, planReply}
 use Rattle.command.specs.Next.{done, command, nextReply}
 use Rattle.command.specs.Apply.{Effect, applyReply, effectReply}
+use Rattle.clean.specs.Clean.{cleanReply}
 use Rattle.joining.specs.Join.{joinReply}
 use Rattle.picture.specs.Graph.{graphReply, readReply}
 use Rattle.panel.specs.Words.{wordOf, sheetReply, doneReply, commandReply, moveReply}
@@ -57,6 +58,7 @@ pub record WordsRight (sheet : List ℕ) : Type 0 where
       → ((e .changed ≡ true) ↔ (256 ≤ wordOf (moveReply (effectReply (applyReply sheet state machine command)))))
       × (wordOf (moveReply (effectReply (applyReply sheet state machine command))) % 256 ≡ e .move)
   -- lengths of what is written
+  pub cleans : (room : ℕ) → TellsLength (cleanReply sheet room)
   pub joins : (goals : List ℕ) (room : ℕ) → TellsLength (joinReply sheet goals room)
   pub draws : (room : ℕ) → TellsLength (graphReply sheet room)
 

@@ -17,13 +17,14 @@ ghost use lib.ListN.{length};
 ghost use Rattle.plan.specs.Planning.{lengthReply, planReply, bufferAfter, scratchAfter};
 ghost use Rattle.command.specs.Next.{nextReply};
 ghost use Rattle.command.specs.Apply.{applyReply, effectReply, stateAfter};
+ghost use Rattle.clean.specs.Clean.{cleanReply};
 ghost use Rattle.joining.specs.Join.{joinReply};
 ghost use Rattle.picture.specs.Graph.{graphReply, readReply};
 ghost use Rattle.panel.specs.Words.{wordOf, sheetReply, doneReply, commandReply, moveReply};
 
 // The word of a refusal.
 fn refusal(cause: Cause, place: usize) -> u64
-    requires { ⌜ place ≤ 6196 ⌝ }
+    requires { ⌜ place ≤ 65535 ⌝ }
     ensures { λ r. ⌜ r ≡ 4294967296 * numberOf cause + place ⌝ }
 {
     4294967296 * (sheet::refusal::number(cause) as u64) + place as u64
@@ -31,7 +32,7 @@ fn refusal(cause: Cause, place: usize) -> u64
 
 // The word of a number of bytes, or of the refusal.
 fn length_word(length: Length) -> u64
-    requires { ⌜ ((number place : ℕ) → measuredOf length ≡ refused number place → place ≤ 6196) ⌝ }
+    requires { ⌜ ((number place : ℕ) → measuredOf length ≡ refused number place → place ≤ 65535) ⌝ }
     ensures { λ r. ⌜ r ≡ wordOf (measuredOf length) ⌝ }
 {
     match length {
@@ -108,6 +109,16 @@ pub extern "C" fn duty_apply(file: &[u8], state: &mut [u8], machine: u8, byte: u
         Change::Unchanged => 255,
         Change::TurnedDown(cause, place) => refusal(cause, place),
     }
+}
+
+// Writes the clean sheet of a sheet, which has no amendments, into a buffer: its length, or the refusal.
+#[no_mangle]
+pub extern "C" fn duty_clean(file: &[u8], out: &mut [u8]) -> u64
+    ensures reply { λ r. ⌜ r ≡ wordOf (lengthOf (cleanReply (now (file .entry)) (length (now (out .entry))))) ⌝ }
+    ensures written { λ _. ⌜ now (out .exit)
+        ≡ outputAfter (cleanReply (now (file .entry)) (length (now (out .entry)))) (now (out .entry)) ⌝ }
+{
+    length_word(clean::cleaning::clean(file, out))
 }
 
 // Joins wishes, each after a byte with its length, and writes the joined one into a buffer: its length, or the refusal.

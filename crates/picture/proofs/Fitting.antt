@@ -1,35 +1,16 @@
 -- What the calls write, and what they reply: the text of a picture, and its bytes.
 -- Assumes nothing.
-use Prim.Native.Nat.{ℕ, _+_, _≤_, _<_}
-use mathlib.Core.Path.{_≡_, refl, ap, _∙_}
+use Prim.Native.Nat.{ℕ, _+_, _≤_}
+use mathlib.Core.Path.{_≡_, ap, _∙_}
 use mathlib.Core.List.{List, [], _∷_, _++_}
 use native.Mathlib.Omega.{arith}
-use native.Mathlib.Nat.{zero-add}
-use lib.ListN.{length, drop, length-append}
-use Rattle.common.specs.Reply.{given, refused, lengthOf, outputAfter}
-use Rattle.decimal.proofs.Putting.{Puts, puts-then}
-use Rattle.sheet.specs.Kept.Written.{written}
+use lib.ListN.{length, length-append}
+use Rattle.sheet.proofs.Pieces.{Puts, puts-then}
 use Rattle.picture.specs.Picture.{pictureBytes}
 use Rattle.picture.specs.Text.{firstLine, lastLine}
-use Rattle.picture.specs.Graph.{fitted}
 use Rattle.picture.specs.Kept.Rows.{nodeRow, edgeRow, pairRow, rowsOf, textRows}
 use Rattle.picture.specs.Kept.Shown.{Shows, shown}
-use Rattle.picture.proofs.Replies.{too-long, short-enough}
 use Rattle.picture.proofs.TextRows.{bytes-rows}
-
-module _ (bytes before : List ℕ) where
-  pub not-fitted : length before < length bytes
-      → (refused 12 0 ≡ lengthOf (fitted bytes (length before)))
-      × (before ≡ outputAfter (fitted bytes (length before)) before)
-  not-fitted h = rw (too-long bytes (length before) h) (refl, refl)
-
-  pub fitted-written : {n end : ℕ} {out : List ℕ} → n ≡ length bytes → length bytes ≤ length before
-      → Puts before 0 bytes end out
-      → (given n ≡ lengthOf (fitted bytes (length before))) × (out ≡ outputAfter (fitted bytes (length before)) before)
-  unfolding written
-  fitted-written e h p =
-      rw (short-enough bytes (length before) h)
-      (ap given e, p .1 ∙ ap (λ k. bytes ++ drop k before) (zero-add (length bytes)))
 
 -- The text
 

@@ -6,13 +6,9 @@ use mathlib.Core.Logic.{⊎-elim}
 use mathlib.Core.List.{List}
 use native.Mathlib.Omega.{arith}
 use Rattle.common.specs.Reply.{refused}
-use Rattle.common.proofs.Reply.{andThen-refused, refused-cause, refused-ways, caused-each}
-use Rattle.sheet.proofs.Place.{Near, refusal-near}
-use Rattle.picture.specs.Graph.{fitted, graphReply, readAs, readReply}
-
-fitted-near : (out : List ℕ) (room : ℕ) {n p : ℕ} → fitted out room ≡ refused n p → Near n p
-unfolding fitted
-fitted-near out room e = caused-each Near (omega arith) (refused-cause _ _ e)
+use Rattle.common.proofs.Reply.{andThen-refused, refused-ways, caused-each}
+use Rattle.sheet.proofs.Place.{Near, refusal-near, fitted-near}
+use Rattle.picture.specs.Graph.{graphReply, readAs, readReply}
 
 pub draw-near : (s : List ℕ) (room : ℕ) {n p : ℕ} → graphReply s room ≡ refused n p → Near n p
 unfolding graphReply

@@ -8,9 +8,9 @@ use native.Mathlib.Numerals.{add-one}
 use lib.ListN.{length, set, take, length-append}
 use lib.Seq.{sets-eq}
 use Rattle.decimal.specs.Decimal.{decimal}
-use Rattle.decimal.proofs.Putting.{Puts, puts-then}
 use Rattle.sets.specs.Kept.Sets.{elements}
 use Rattle.sheet.specs.Kept.Written.{written}
+use Rattle.sheet.proofs.Pieces.{Puts, puts-then}
 use Rattle.picture.specs.Picture.{edge}
 use Rattle.picture.specs.Text.{lineStart, labels, edgeLine}
 use Rattle.picture.specs.Kept.Rows.{labelStart, labelEnd, nodeOf, nodeRow}

@@ -10,7 +10,7 @@ use lib.Dec.{ltb}
 use lib.ListN.{length, getD}
 use Rattle.common.specs.Bits.{bit}
 use Rattle.common.specs.Lists.{upTo, all}
-use Rattle.common.specs.Reply.{refused, lengthOf, outputAfter}
+use Rattle.common.specs.Reply.{refused, lengthOf, outputAfter, fitted}
 use Rattle.common.proofs.Bools.{by-cases, and-left, and-right}
 use Rattle.common.proofs.Lists.{all-intro}
 use Rattle.common.proofs.Members.{mem-index}
@@ -18,7 +18,7 @@ use Rattle.plan.proofs.Named.{group-below-count}
 use Rattle.picture.specs.Picture.{edgesBy, pictureBytes}
 use Rattle.picture.specs.Text.{textOf}
 use Rattle.picture.specs.Reading.{saidNothing, saidAfter, takenApart, inTurn, drawable}
-use Rattle.picture.specs.Graph.{fitted, sameBytes, isText, readAs, readReply}
+use Rattle.picture.specs.Graph.{sameBytes, isText, readAs, readReply}
 use Rattle.picture.specs.Kept.Shown.{shown, Shown}
 use Rattle.picture.specs.Kept.Matched.{NoPicture}
 use Rattle.picture.proofs.Replies.{same-equal, same-self, read-refused, read-fitted}

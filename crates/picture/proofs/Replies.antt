@@ -8,8 +8,9 @@ use native.Mathlib.Omega.{arith}
 use borrow.Author.Tests.{eqb-true, eq-eqb, lt-ltb, le-ltb, ltb-true, ltb-false}
 use lib.Dec.{eqb, ltb}
 use lib.ListN.{length}
-use Rattle.common.specs.Reply.{given, refused, unless, andThen}
+use Rattle.common.specs.Reply.{given, refused, unless, andThen, fitted}
 use Rattle.common.proofs.Bools.{by-cases, true-false, and-intro, and-left, and-right, not-of-true, not-of-false}
+use Rattle.common.proofs.Output.{too-long, short-enough}
 use Rattle.common.proofs.Reply.{given-not-refused, unless-first, unless-later}
 use Rattle.sheet.specs.Parse.{Parsed, parse}
 use Rattle.sheet.proofs.Guarantees.{accepted-valid}
@@ -17,7 +18,7 @@ use Rattle.plan.specs.Groups.{groupsOf}
 use Rattle.picture.specs.Picture.{Picture, namedBy, pictureOf, pictureBytes}
 use Rattle.picture.specs.Text.{textOf}
 use Rattle.picture.specs.Reading.{saidNothing, saidAfter, takenApart, drawable}
-use Rattle.picture.specs.Graph.{fitted, graphReply, sameBytes, isText, readAs, readReply}
+use Rattle.picture.specs.Graph.{graphReply, sameBytes, isText, readAs, readReply}
 use Rattle.picture.specs.Drawn.{HasSheet, DrawsRight, ReadsRight, PicturesRight}
 use Rattle.picture.proofs.Bytes.{bytes-right}
 use Rattle.picture.proofs.DrawableMeans.{drawable-means}
@@ -30,19 +31,11 @@ use Rattle.picture.proofs.TakenApart.{taken-apart}
 -- 12
 
 module _ (out : List ℕ) (room : ℕ) where
-  pub too-long : room < length out → fitted out room ≡ refused 12 0
-  unfolding fitted
-  too-long h = unless-first _ [] _ (lt-ltb room (length out) h)
-
-  pub short-enough : length out ≤ room → fitted out room ≡ given out
-  unfolding fitted unless
-  short-enough h = unless-later _ [] _ (le-ltb room (length out) h)
-
   not-20 : fitted out room ≡ refused 20 0 → ⊥
   not-20 e =
       by-cases (ltb room (length out))
-      (λ t. let z : _≡_ {A = ℕ} 12 20 = cc (too-long (ltb-true _ _ t), e) in omega arith)
-      (λ f. given-not-refused (sym (short-enough (ltb-false _ _ f)) ∙ e))
+      (λ t. let z : _≡_ {A = ℕ} 12 20 = cc (too-long out room (ltb-true _ _ t), e) in omega arith)
+      (λ f. given-not-refused (sym (short-enough out room (ltb-false _ _ f)) ∙ e))
 
 -- Texts that are the same
 

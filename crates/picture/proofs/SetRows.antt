@@ -6,9 +6,9 @@ use mathlib.Core.List.{List, [], _∷_, _++_, flatMap, append-assoc, append-nil}
 use native.Mathlib.Omega.{arith}
 use lib.ListN.{length, length-append}
 use Rattle.decimal.specs.Decimal.{decimal}
-use Rattle.decimal.proofs.Putting.{Puts, puts-none, puts-then}
 use Rattle.sets.specs.Kept.Sets.{alone, less, least, elements}
 use Rattle.sets.proofs.Members.{elements-none, taken-elements, taken-fits}
+use Rattle.sheet.proofs.Pieces.{Puts, puts-none, puts-then}
 use Rattle.picture.specs.Picture.{edge}
 use Rattle.picture.specs.Text.{labels, edgeLine}
 use Rattle.picture.specs.Kept.Rows.{edgesOf, edgeRow, pairRow}

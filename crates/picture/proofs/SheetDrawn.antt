@@ -10,7 +10,7 @@ use lib.Dec.{ltb}
 use lib.ListN.{length, getD, take, List·getD-eq-default}
 use lib.Seq.{length-take-le, getD-take}
 use Rattle.common.specs.Bits.{bit}
-use Rattle.common.specs.Reply.{refused, andThen}
+use Rattle.common.specs.Reply.{refused, andThen, fitted}
 use Rattle.common.proofs.Bools.{by-cases, true-false}
 use Rattle.sets.proofs.Laws.{bit-none}
 use Rattle.sheet.specs.declared.index.Sheet.{Sheet}
@@ -28,7 +28,7 @@ use Rattle.plan.proofs.SheetLength.{numbers-are}
 use Rattle.plan.proofs.SheetNumbers.{numbers-small}
 use Rattle.picture.specs.Picture.{Edge, edgesBy, namedBy, pictureOf}
 use Rattle.picture.specs.Text.{textOf}
-use Rattle.picture.specs.Graph.{fitted, graphReply}
+use Rattle.picture.specs.Graph.{graphReply}
 use Rattle.picture.specs.Kept.Shown.{Shows, shown}
 use Rattle.picture.proofs.Edges.{edgesBy-cong}
 

@@ -3,7 +3,7 @@
 use Prim.Native.Nat.{ℕ, _≤_, _<_}
 use mathlib.Core.Path.{_≡_, refl, sym, ap, ap₂, subst, _∙_}
 use mathlib.Core.Logic.{_⊎_, inl, inr, ⊎-elim}
-use mathlib.Core.List.{List·Memᴰ}
+use mathlib.Core.List.{List·Memᴰ, List·Memᴰ·not-nil}
 use mathlib.Core.Bool.{Bool, true, false, not, _&&_, _||_}
 use native.Mathlib.Omega.{arith}
 use borrow.Author.Tests.{eqb-true, eq-eqb, ne-eqb}
@@ -14,7 +14,7 @@ use Rattle.common.proofs.Least.{equal-or-not}
 use Rattle.sheet.specs.Model.{Model, machineCount, moveCount, moveAt}
 use Rattle.sheet.specs.Valid.{Valid}
 use Rattle.sheet.specs.Write.{sheetBytes}
-use Rattle.sheet.proofs.Guarantees.{valid-accepted}
+use Rattle.sheet.proofs.Guarantees.{valid-accepted, clean-file}
 use Rattle.plan.specs.Needs.{Needs, Reaches, itself, through}
 use Rattle.plan.specs.Groups.{Grouping, groupOf, groupCount}
 use Rattle.plan.specs.Meaning.{GroupsRight}
@@ -203,12 +203,13 @@ drawable-model p joined e ok =
 
 pub every-drawable-has-a-sheet : (p : Picture) (joined : ℕ → ℕ → Bool)
     → p .edges ≡ edgesBy joined (groupCount (p .groups)) → drawable p ≡ true → HasSheet (textOf p)
+unfolding clean-file
 every-drawable-has-a-sheet p joined e ok =
     let (m, valid, some, commands, is-p) = drawable-model p joined e ok in
-    let read = valid-accepted m valid some in
+    let read = valid-accepted (sheetBytes m) m (clean-file m valid some) in
     record {
       sheet = sheetBytes m;
-      bytes = read .bytes commands;
+      bytes = read .bytes commands (λ v i. absurd (List·Memᴰ·not-nil i));
       parsed = read .parsed;
       passes = read .accepted;
       drawn = ap textOf (ap pictureOf (read .same) ∙ is-p);

@@ -4,34 +4,24 @@ use Prim.Native.Nat.{ℕ, _≤_}
 use mathlib.Core.Path.{_≡_, ap}
 use mathlib.Core.List.{List}
 use native.Mathlib.Omega.{arith}
-use borrow.Author.Tests.{ltb-false, not-false}
+use borrow.Author.Tests.{not-false}
 use lib.ListN.{length}
 use Rattle.common.specs.Reply.{given}
 use Rattle.common.proofs.Bools.{and-left}
 use Rattle.common.proofs.Reply.{given-clear, given-stays, andThen-given}
-use Rattle.common.proofs.Output.{WithinRoom, output-left}
+use Rattle.common.proofs.Output.{WithinRoom, fitted-is, fitted-fits, output-left}
 use Rattle.sheet.specs.Parse.{parse}
 use Rattle.sheet.proofs.Guarantees.{accepted-valid}
 use Rattle.plan.specs.Groups.{groupCount}
 use Rattle.picture.specs.Picture.{pictureOf, pictureBytes}
 use Rattle.picture.specs.Text.{textOf}
 use Rattle.picture.specs.Reading.{saidNothing, saidAfter, takenApart}
-use Rattle.picture.specs.Graph.{fitted, graphReply, isText, readAs, readReply}
+use Rattle.picture.specs.Graph.{graphReply, isText, readAs, readReply}
 use Rattle.picture.specs.Drawn.{OutputsLeft}
 use Rattle.picture.proofs.Bytes.{bytes-length}
 use Rattle.picture.proofs.DrawableMeans.{drawable-means, few-groups}
 use Rattle.picture.proofs.Edges.{edges-few}
 use Rattle.picture.proofs.Longest.{longest-text}
-
-fitted-is : (made : List ℕ) (room : ℕ) {out : List ℕ} → fitted made room ≡ given out → made ≡ out
-unfolding fitted
-fitted-is made room e = let same = given-stays _ (given made) e in cc
-
-fitted-fits : (made : List ℕ) (room : ℕ) → WithinRoom (fitted made room) room
-unfolding fitted
-fitted-fits made room out e =
-    let (f, none) = given-clear _ (given made) e in
-    omega (arith, ltb-false room (length made) f, ap length (fitted-is made room e))
 
 graph-fits : (sheet : List ℕ) (room : ℕ) → WithinRoom (graphReply sheet room) room
 unfolding graphReply

@@ -24,7 +24,7 @@ Before e f = (e .source < f .source) ⊎ ((e .source ≡ f .source) × (e .targe
 abbrev pub noEdge : Edge
 noEdge = edge 0 0
 
--- The picture of a sheet that passes 1 to 8: its groups are those of demand 2, and so are its edges.
+-- The picture of a sheet that passes 1 to 8 and 21: its groups are those of demand 2, and so are its edges.
 pub record PictureRight (m : Model) : Type 0 where
   pub groups-are : pictureOf m .groups ≡ groupsOf m
   -- an edge for each outside group that a move of the group names
@@ -44,7 +44,7 @@ pub record BytesRight (m : Model) (out : List ℕ) : Type 0 where
       → byte out (2 + machineCount m + 2 * i) ≡ getD (pictureOf m .edges) i noEdge .target
   pub no-more : length out ≡ 1 + machineCount m + 2 * length (pictureOf m .edges)
 
--- some file of bytes passes 1 to 8, and this is the text of its picture
+-- some file of bytes passes 1 to 8 and 21, and this is the text of its picture
 pub record HasSheet (text : List ℕ) : Type 0 where
   pub sheet : List ℕ
   pub bytes : (i : ℕ) → byte sheet i < 256
@@ -52,7 +52,7 @@ pub record HasSheet (text : List ℕ) : Type 0 where
   pub passes : parse sheet ≡ given parsed
   pub drawn : textOf (pictureOf (parsed .model)) ≡ text
 
--- 1 to 8 come before all else, then 12; else the text.
+-- 1 to 8 and 21 come before all else, then 12; else the text.
 pub record DrawsRight (sheet : List ℕ) (room : ℕ) : Type 0 where
   pub sheet-first : (n p : ℕ) → parse sheet ≡ refused n p → graphReply sheet room ≡ refused n p
   pub no-room : (d : Parsed) → parse sheet ≡ given d → room < length (textOf (pictureOf (d .model)))

@@ -9,11 +9,11 @@ use Rattle.common.specs.Bits.{bit, beyond}
 use Rattle.common.specs.Graph.{successors, marked, single, grown, layersFrom, layers, distancesTo, distances, between}
 use Rattle.common.specs.Graph.{connected}
 use Rattle.common.specs.Lists.{upTo, all, any, filter, position, find, maximum}
-use Rattle.common.specs.Reply.{Reply, given, refused, unless, andThen}
+use Rattle.common.specs.Reply.{Reply, given, refused, unless, andThen, fitted}
 use Rattle.sheet.specs.Record.{word, recordAt, part}
-use Rattle.sheet.specs.Model.{moveOf, withMachine, withMove}
-use Rattle.sheet.specs.Faults.{wrongMoveLength, badMachine, badMove, badGuard, badGuards, sameMove, badCommand}
-use Rattle.sheet.specs.Faults.{machineFaults, moveFaults, endFaults, faultsOf}
+use Rattle.sheet.specs.Model.{moveOf, sameMove, withMachine, withMove}
+use Rattle.sheet.specs.Faults.{wrongMoveLength, badMachine, badMove, badGuard, badGuards, badCommand}
+use Rattle.sheet.specs.Faults.{machineFaults, moveFaults, lateFaults, endFaults, faultsOf}
 use Rattle.sheet.specs.Parse.{extended, turnAt, parseFrom, parse}
 use Rattle.plan.specs.Needs.{names, needs, needGraph}
 use Rattle.plan.specs.Groups.{Grouping, groupCount, members, together, numbered, ready as groupReady}
@@ -25,7 +25,7 @@ use Rattle.picture.specs.Text.{lineStart, labels, nodeLine, edgeLine, te
 use Rattle.picture.specs.Layout.{bytes}
 use Rattle.picture.specs.Reading.{andMachine, andGroup, andNumber, saidAfter, takenApart, ready, inTurn}
 use Rattle.picture.specs.Reading.{drawable}
-use Rattle.picture.specs.Graph.{fitted, graphReply, sameBytes, isText, readAs, readReply}
+use Rattle.picture.specs.Graph.{graphReply, sameBytes, isText, readAs, readReply}
 
 -- lines between the first and the last
 abbrev pub graph : String → List ℕ
@@ -153,7 +153,7 @@ drawing-holds : EachReplies graphReply drawing
 unfolding
     flatMap bit beyond successors marked single grown layersFrom layers distancesTo distances between connected upTo
     all any filter position find maximum unless andThen word recordAt part moveOf withMachine withMove
-    wrongMoveLength badMachine badMove badGuard badGuards sameMove badCommand machineFaults moveFaults endFaults
+    wrongMoveLength badMachine badMove badGuard badGuards sameMove badCommand machineFaults moveFaults lateFaults endFaults
     faultsOf extended turnAt parseFrom parse names needs needGraph groupCount members together numbered groupReady
     groupNumber numberedUpto groupsOf movesOf namesGroup namedOutside digit digits decimal edgesBy namedBy pictureOf
     lineStart labels nodeLine edgeLine textOf fitted graphReply

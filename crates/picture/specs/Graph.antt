@@ -2,19 +2,14 @@
 use Prim.Native.Nat.{ℕ}
 use mathlib.Core.List.{List, [], _∷_}
 use mathlib.Core.Bool.{Bool, true, false, not, _&&_}
-use lib.ListN.{length}
-use lib.Dec.{eqb, ltb}
-use Rattle.common.specs.Reply.{Reply, given, fault, unless, andThen}
+use lib.Dec.{eqb}
+use Rattle.common.specs.Reply.{Reply, fault, unless, andThen, fitted}
 use Rattle.sheet.specs.Parse.{parse}
 use Rattle.picture.specs.Picture.{Picture, pictureOf, pictureBytes}
 use Rattle.picture.specs.Text.{textOf}
 use Rattle.picture.specs.Reading.{takenApart, drawable}
 
--- 12: the bytes do not fit the lent buffer
-unfoldable pub fitted : List ℕ → ℕ → Reply (List ℕ)
-fitted out room = unless (fault 12 0 (ltb room (length out)) ∷ []) (given out)
-
--- the text of a sheet's picture: 1 to 8, then 12
+-- the text of a sheet's picture: 1 to 8 and 21, then 12
 unfoldable pub graphReply : List ℕ → ℕ → Reply (List ℕ)
 graphReply sheet room = andThen (parse sheet) (λ d. fitted (textOf (pictureOf (d .model))) room)
 

@@ -1,4 +1,4 @@
-// Drawing a sheet: 1 to 8, 12. Reading a picture: 20, 12.
+// Drawing a sheet: 1 to 8 and 21, 12. Reading a picture: 20, 12.
 use crate::lines::put;
 use crate::matching::matched;
 use crate::rows::all_edges_length;
@@ -17,13 +17,13 @@ use sheet::refusal::Verdict;
 ghost use mathlib.Core.Path.{_≡_};
 ghost use Prim.Native.Nat.{_≤_};
 ghost use lib.ListN.{length};
-ghost use Rattle.common.specs.Reply.{lengthOf, outputAfter};
+ghost use Rattle.common.specs.Reply.{lengthOf, outputAfter, fitted};
 ghost use Rattle.sheet.specs.Model.{Model};
 ghost use Rattle.sheet.specs.Kept.Indexed.{Indexed, Indexes};
 ghost use Rattle.sheet.specs.Refusal.{measuredOf};
 ghost use Rattle.picture.specs.Picture.{pictureOf, pictureBytes};
 ghost use Rattle.picture.specs.Text.{textOf};
-ghost use Rattle.picture.specs.Graph.{fitted, graphReply, readReply};
+ghost use Rattle.picture.specs.Graph.{graphReply, readReply};
 ghost use Rattle.picture.specs.Kept.Rows.{textRows};
 ghost use Rattle.picture.specs.Kept.Shown.{Shows, shown, Shown};
 

@@ -54,7 +54,7 @@ pub accepted-length : {m : Model} {plan : List ℕ} {buffer scratch : ℕ} → A
     → length plan ≡ planLength m (groupsOf m)
 accepted-length {m} a = ap length (a .own) ∙ length-ownPlan m
 
--- a refusal by 1 to 8 stays
+-- a refusal of the sheet stays
 pub plan-unread : (sheet : List ℕ) (buffer scratch : ℕ) {number place : ℕ} → parse sheet ≡ refused number place
     → planReply sheet buffer scratch ≡ refused number place
 unfolding planReply andThen

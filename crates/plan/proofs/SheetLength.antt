@@ -1,5 +1,5 @@
 -- The length of the plan of a sheet that has been read: its own group numbers fit the arrays, and the reply is that of
--- tests 1 to 10, with a number that is not 0 and a place that is small.
+-- tests 1 to 8 and 21, 9, 10, with a number that is not 0 and a place that is small.
 -- Assumes nothing.
 use Prim.Native.Nat.{ℕ, _≤_}
 use mathlib.Core.Path.{_≡_, sym, ap, _∙_}
@@ -57,7 +57,7 @@ module _ {s : List ℕ} {x : Sheet} {m : Model} (i : Indexes s x m) where
     own-length f = f m numbers-length (indexes-modes i) ∙ ap (lengthWith m) numbers-are
 
 -- the place of 9 is a machine's number
-large-place-near : (s : List ℕ) {d : Parsed} → parse s ≡ given d → largePlace (d .model) (groupsOf (d .model)) ≤ 6196
+large-place-near : (s : List ℕ) {d : Parsed} → parse s ≡ given d → largePlace (d .model) (groupsOf (d .model)) ≤ 65535
 unfolding largePlace
 large-place-near s {d} read =
     let groups = groupsOf (d .model) in

@@ -47,14 +47,14 @@ ownPlan m =
     let groups = groupsOf m in
     bytesOf m groups (routesUpto m groups (groupCount groups))
 
--- the reply of the plan's length: tests 1 to 10
+-- the reply of the plan's length: tests 1 to 8 and 21, 9, 10
 unfoldable pub lengthReply : List ℕ → Reply ℕ
 lengthReply sheet =
     andThen (parse sheet) (λ d.
     let groups = groupsOf (d .model) in
     unless (sizeFaults (d .model) groups) (given (planLength (d .model) groups)))
 
--- the reply of planning, with the lengths of the lent plan buffer and scratch: tests 1 to 12
+-- the reply of planning, with the lengths of the lent plan buffer and scratch: tests 1 to 8 and 21, 9 to 12
 unfoldable pub planReply : List ℕ → ℕ → ℕ → Reply (List ℕ)
 planReply sheet buffer scratch =
     andThen (parse sheet) (λ d.

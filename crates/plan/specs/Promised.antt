@@ -48,7 +48,7 @@ squares m groups = sum (map (λ k. size m groups k * size m groups k) (upTo (gro
 abbrev pub ownBound : Model → ℕ
 ownBound m = planBound m (groupsOf m) (routesUpto m (groupsOf m) (groupCount (groupsOf m)))
 
--- The bound of every sheet that passes 1 to 8, accepted or not, is the sum of the costs.
+-- The bound of every sheet that passes 1 to 8 and 21, accepted or not, is the sum of the costs.
 abbrev pub BoundsRight : Type 0
 BoundsRight = (m : Model) → Valid m → BoundRight m (groupsOf m) (ownBound m)
 

@@ -1,4 +1,4 @@
-// The length of a sheet's plan: tests 1 to 10.
+// The length of a sheet's plan: tests 1 to 8 and 21, 9, 10.
 use crate::grouping::groups;
 use crate::sizing::Group;
 use crate::sizing::count;
@@ -91,7 +91,7 @@ fn measured(file: &[u8], sheet: Sheet) -> Length
     length_of(&numbers[..n], &sheet.modes)
 }
 
-// The length of the plan of a sheet: tests 1 to 10.
+// The length of the plan of a sheet: tests 1 to 8 and 21, 9, 10.
 pub fn plan_length(file: &[u8]) -> Length
     ensures { λ r. ⌜ measuredOf r ≡ lengthReply (now (file .entry)) ⌝ }
 {

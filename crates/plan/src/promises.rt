@@ -25,7 +25,7 @@ pub fn usable_is_right()
     ensures { λ _. ⌜ ((m : Model) → Valid m → UsableRight m (groupsOf m)) ⌝ }
 {}
 
-// The bound of every sheet that passes 1 to 8 is the sum of the costs.
+// The bound of every sheet that passes 1 to 8 and 21 is the sum of the costs.
 pub fn bounds_are_right()
     ensures { λ _. ⌜ BoundsRight ⌝ }
 {}

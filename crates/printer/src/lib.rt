@@ -189,6 +189,9 @@ fn meaning(cause: Cause) {
         Cause::BadMove => text(b"a move of a machine or mode that cannot make it"),
         Cause::BadGuard => text(b"a move that needs what cannot be"),
         Cause::BadCommand => text(b"a move without a command, or with one used before"),
+        Cause::Unamendable => text(
+            b"an amendment of no standing move or one too many, or a move behind one",
+        ),
         _ => text(b"not of a sheet"),
     }
 }

@@ -3,17 +3,20 @@
 -- Assumes nothing.
 use Prim.Native.Nat.{ℕ, zero, suc, _+_, _*_, _/_, _%_, _≤_, _<_}
 use mathlib.Core.Path.{_≡_, refl, sym, ap, ap₂, _∙_}
-use mathlib.Core.List.{List, [], _∷_, flatMap}
+use mathlib.Core.List.{List, [], _∷_, map, flatMap}
 use native.Mathlib.Omega.{arith}
 use borrow.Author.Tests.{eqb-true, eqb-false}
 use lib.Dec.{eqb}
 use lib.ListN.{length, getD}
 use lib.Seq.{getD-append-add, ext-getD}
 use Rattle.common.proofs.Bools.{by-cases}
+use Rattle.common.specs.Lists.{upTo}
+use Rattle.common.proofs.Members.{length-map-upTo, getD-map-upTo}
 use Rattle.common.proofs.Sums.{length-twos, getD-twos}
 use Rattle.sheet.specs.Record.{byte}
 use Rattle.sheet.specs.Model.{Guard, Move, Model, guard, noGuard, guardAt, moveOf}
 use Rattle.sheet.specs.Write.{machineBody, guardBytes, moveBody}
+use Rattle.sheet.proofs.Fits.{MoveSize}
 use Rattle.sheet.proofs.Guards.{guard-count, guard-here}
 
 pub length-machineBody : (m : Model) (i : ℕ) → length (machineBody m i) ≡ 2
@@ -58,15 +61,26 @@ module _ (v : Move) where
 
 -- And back: what was read from a body writes that body
 
-pub machine-body-back : (body : List ℕ) → length body ≡ 2 → byte body 0 ∷ byte body 1 ∷ [] ≡ body
-machine-body-back body e = ext-getD 0 _ body (sym e) at-each
-  where
-    at-each : (i : ℕ) → i < 2 → byte (byte body 0 ∷ byte body 1 ∷ []) i ≡ byte body i
-    at-each zero h = refl
-    at-each (suc zero) h = refl
-    at-each (suc (suc i)) h = absurd (let f : ⊥ = omega arith in f)
+bytes-back : (body : List ℕ) (n : ℕ) → length body ≡ n → map (byte body) (upTo n) ≡ body
+bytes-back body n e =
+    let m = length-map-upTo (byte body) n in
+    ext-getD 0 _ body (m ∙ sym e) (λ i h. getD-map-upTo (byte body) 0 (omega arith))
 
-module _ (body : List ℕ) (long : 4 ≤ length body) (even : length body % 2 ≡ 0) where
+pub machine-body-back : (body : List ℕ) → length body ≡ 2 → byte body 0 ∷ byte body 1 ∷ [] ≡ body
+unfolding upTo
+machine-body-back body e = bytes-back body 2 e
+
+pub withdraw-body-back : (body : List ℕ) → length body ≡ 3 → byte body 0 ∷ byte body 1 ∷ byte body 2 ∷ [] ≡ body
+unfolding upTo
+withdraw-body-back body e = bytes-back body 3 e
+
+module _ (body : List ℕ) (size : MoveSize (length body)) where
+  long : 4 ≤ length body
+  long = size .long
+
+  even : length body % 2 ≡ 0
+  even = size .even
+
   guard-byte : (i : ℕ) → 4 + i < length body → byte (flatMap guardBytes (moveOf body .guards)) i ≡ byte body (4 + i)
   guard-byte i h =
       let n : ℕ = i / 2 in

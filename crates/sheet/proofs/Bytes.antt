@@ -7,12 +7,12 @@ use native.Mathlib.Omega.{arith}
 use borrow.Author.Tests.{leb-true, leb-false}
 use lib.Pow.{pow-mono}
 use lib.Dec.{leb}
-use lib.ListN.{length, getD, List·getD-eq-default}
+use lib.ListN.{getD, List·getD-eq-default}
 use Rattle.common.specs.Bits.{beyond}
 use Rattle.common.proofs.Bools.{by-cases}
 use Rattle.common.proofs.Bits.{beyond-small}
-use Rattle.sheet.specs.Model.{Model, machineCount, moveCount, modeCount, moveAt, guardAt}
-use Rattle.sheet.specs.Valid.{Valid}
+use Rattle.sheet.specs.Model.{Guard, Move, Model, machineCount, modeCount}
+use Rattle.sheet.specs.Valid.{ValidGuard, Valid}
 
 -- a set of at most eight modes is a byte
 pub set-is-byte : (n mask : ℕ) → n ≤ 8 → beyond n mask ≡ false → mask < 256
@@ -27,8 +27,7 @@ module _ (m : Model) (ok : Valid m) where
       let k = ok .machines-valid i (leb-false _ _ f) in
       set-is-byte (modeCount m i) _ (k .few-modes) (k .within))
 
-  pub mask-is-byte : (v n : ℕ) → v < moveCount m → n < length (moveAt m v .guards) → guardAt (moveAt m v) n .mask < 256
-  mask-is-byte v n h k =
-      let g = ok .moves-valid v h .guards-valid n k in
-      let i = ok .machines-valid (guardAt (moveAt m v) n .machine) (g .present) in
-      set-is-byte (modeCount m (guardAt (moveAt m v) n .machine)) _ (i .few-modes) (g .within)
+  pub mask-is-byte : {v : Move} {g : Guard} → ValidGuard m v g → g .mask < 256
+  mask-is-byte {g = g} h =
+      let i = ok .machines-valid (g .machine) (h .present) in
+      set-is-byte (modeCount m (g .machine)) _ (i .few-modes) (h .within)

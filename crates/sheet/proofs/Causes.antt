@@ -1,64 +1,46 @@
--- The causes 2 and 4 to 8 of a whole record in one row, whatever its kind. A test is false exactly if the words of its
--- number hold of the record.
+-- A test of the row, of 2 or of 4 to 8, is false exactly if the words of its number hold of the record. For 21 see
+-- `Amendable`.
 -- Assumes nothing.
-use Prim.Native.Nat.{ℕ, _+_, _-_, _*_, _/_, _%_}
-use mathlib.Core.Path.{_≡_, refl, ap, _∙_}
-use mathlib.Core.Logic.{_↔_}
-use mathlib.Core.List.{List, [], _∷_}
-use mathlib.Core.Bool.{Bool, true, false, cond, not, _&&_, _||_}
+use Prim.Native.Nat.{ℕ, _+_, _-_, _*_, _/_, _≤_, _<_}
+use mathlib.Core.Path.{_≡_, refl, sym, ap, _∙_}
+use mathlib.Core.Logic.{_↔_, _⊎_, inl, inr, ⊎-elim, ⊎-map}
+use mathlib.Core.List.{List}
+use mathlib.Core.Bool.{Bool, true, false, not, _&&_, _||_}
 use native.Mathlib.Omega.{arith}
-use borrow.Author.Tests.{ltb-false, leb-false, eqb-true, eqb-false, not-false, lt-leb, le-ltb, ne-eqb}
+use borrow.Author.Tests.{ltb-false, leb-false, eqb-true, eqb-false, not-false, lt-leb, le-ltb, eq-eqb, ne-eqb}
 use lib.Dec.{eqb, ltb, leb}
 use lib.ListN.{length}
-use Rattle.common.specs.Reply.{Reply, Fault, fault, unless}
-use Rattle.common.proofs.Bools.{by-cases, true-false, or-false-intro}
+use Rattle.common.proofs.Bools.{by-cases, true-false, or-false-intro, or-cases, or-left, or-right}
+use Rattle.common.proofs.When.{and-known, and-when-false}
 use Rattle.sheet.specs.Record.{byte, word, part}
-use Rattle.sheet.specs.Model.{Move, Model, machineCount, moveCount, moveOf}
-use Rattle.sheet.specs.Faults.{wrongMoveLength, badMachine, badMove, badGuards, badCommand}
-use Rattle.sheet.specs.Faults.{machineFaults, moveFaults, endFaults, faultsOf}
+use Rattle.sheet.specs.Model.{Move, Model, machineCount, moveCount}
+use Rattle.sheet.specs.Amend.{Draft}
+use Rattle.sheet.specs.Faults.{wrongMoveLength, badMachine, badMove, badGuards}
 use Rattle.sheet.specs.Valid.{Valid}
-use Rattle.sheet.specs.Faulty.{ModesRight, NeedsRight, CommandRight, Whole, MachineRight}
-use Rattle.sheet.specs.Faulty.{Known, machine, move, end, InPlace}
+use Rattle.sheet.specs.Faulty.{ModesRight, NeedsRight, CommandFits, Kind, written, Whole, Bodied, MachineRight}
+use Rattle.sheet.specs.Faulty.{Known, machine, bodied, end, withdrawal}
+use Rattle.sheet.specs.Faulty.{replacement, InPlace, move, amendment}
 use Rattle.sheet.proofs.Records.{part-length, part-byte}
-use Rattle.sheet.proofs.Fits.{parts, machine-fits, modes-fit, needs-fit, command-fits}
+use Rattle.sheet.proofs.Fits.{parts, machine-fits, modes-fit, needs-fit, command-fits, length-fits}
 use Rattle.sheet.proofs.Passes.{machine-not-bad, modes-pass, needs-pass, command-passes, length-not-wrong}
+use Rattle.sheet.proofs.Row.{unknownKind, outOfPlace, badCommandOf, by-kind}
 
--- 2 and 4, by the kind
-unfoldable pub unknownKind : ℕ → ℕ → Bool
-unknownKind kind len =
-    cond (eqb kind 1) (not (eqb len 2))
-    (cond (eqb kind 2) (wrongMoveLength len)
-    (cond (eqb kind 3) (not (eqb len 0)) true))
+-- a test of kinds
+pub is-kind : (kind i : ℕ) → (eqb kind i ≡ true) ↔ (kind ≡ i)
+is-kind kind i = (eqb-true kind i, eq-eqb kind i)
 
-unfoldable pub outOfPlace : Model → ℕ → Bool
-outOfPlace m kind =
-    cond (eqb kind 1) (ltb 0 (moveCount m) || leb 32 (machineCount m))
-    (cond (eqb kind 2) (eqb (machineCount m) 0 || leb 250 (moveCount m))
-    (cond (eqb kind 3) (eqb (machineCount m) 0) true))
+pub is-either : (kind i j : ℕ) → (eqb kind i || eqb kind j ≡ true) ↔ ((kind ≡ i) ⊎ (kind ≡ j))
+is-either kind i j = (
+  λ t. ⊎-map (eqb-true kind i) (eqb-true kind j) (or-cases (eqb kind i) _ t),
+  λ k. ⊎-elim (λ a. or-left _ (eq-eqb kind i a)) (λ b. or-right (eqb kind i) (eq-eqb kind j b)) k,
+)
 
--- all six; those of another kind are silent
-abbrev pub row : Model → ℕ → ℕ → List ℕ → List Fault
-row m at kind body =
-    fault 2 at (unknownKind kind (length body))
-    ∷ fault 4 at (outOfPlace m kind)
-    ∷ fault 5 at (eqb kind 1 && badMachine (byte body 0) (byte body 1))
-    ∷ fault 6 at (eqb kind 2 && badMove (m .modes) (m .live) (moveOf body))
-    ∷ fault 7 at (eqb kind 2 && badGuards (m .modes) (moveOf body))
-    ∷ fault 8 at (eqb kind 2 && badCommand (m .moves) (moveOf body))
-    ∷ []
-
--- a kind is 1, 2, 3 or another
-by-kind : {C : Type 0} (kind : ℕ) → (kind ≡ 1 → C) → (kind ≡ 2 → C) → (kind ≡ 3 → C)
-    → (eqb kind 1 ≡ false → eqb kind 2 ≡ false → eqb kind 3 ≡ false → C) → C
-by-kind kind one two three other =
-    by-cases (eqb kind 1) (λ t. one (eqb-true _ _ t)) (λ f.
-    by-cases (eqb kind 2) (λ t. two (eqb-true _ _ t)) (λ g.
-    by-cases (eqb kind 3) (λ t. three (eqb-true _ _ t)) (λ h. other f g h)))
-
-pub same-row : (m : Model) (at kind : ℕ) (body : List ℕ) {A : Type 0} (r : Reply A)
-    → unless (faultsOf m at kind body) r ≡ unless (row m at kind body) r
-unfolding unless faultsOf machineFaults moveFaults endFaults unknownKind outOfPlace
-same-row m at kind body r = by-kind kind (λ k. rw k) (λ k. rw k) (λ k. rw k) (λ f g h. rw (f, g, h))
+-- a test of those kinds alone
+when-means : {K W : Type 0} {a t : Bool} → (a ≡ true) ↔ K → (K → (t ≡ false) ↔ W) → (a && t ≡ false) ↔ (K → W)
+when-means kind e = (
+  λ f k. e k .0 (and-known (kind .1 k) f),
+  λ h. and-when-false _ _ (λ p. let k = kind .0 p in e k .1 (h k)),
+)
 
 module _ (s : List ℕ) (at : ℕ) where
   abbrev kind : ℕ
@@ -71,43 +53,74 @@ module _ (s : List ℕ) (at : ℕ) where
   body = part s (at + 4) len
 
   -- 2
+  sized-of : Bodied s at → wrongMoveLength len ≡ false → Known s at
+  sized-of k h = let n = length-fits len h in bodied k ((len - 4) / 2) (omega arith) (omega arith)
+
   known-of : unknownKind kind len ≡ false → Known s at
-  unfolding unknownKind wrongMoveLength
+  unfolding unknownKind
   known-of h =
       by-kind kind
       (λ k. machine k (eqb-true _ _ (not-false _ (rw k at h))))
-      (λ k.
-      let g = rw k at h in
-      let a : ltb len 4 ≡ false = search parts in
-      let b : ltb 20 len ≡ false = search parts in
-      let e : eqb (len % 2) 1 ≡ false = search parts in
-      move k ((len - 4) / 2) (omega (arith, ltb-false)) (omega (arith, ltb-false, eqb-false (len % 2) 1 e)))
+      (λ k. sized-of (inl k) (rw k at h))
       (λ k. end k (eqb-true _ _ (not-false _ (rw k at h))))
-      (λ f g k. absurd (true-false refl (rw (f, g, k) at h)))
+      (λ k. sized-of (inr k) (rw k at h))
+      (λ k. withdrawal k (eqb-true _ _ (not-false _ (rw k at h))))
+      (λ a b c d e. absurd (true-false refl (rw (a, b, c, d, e) at h)))
+
+  sized-passes : (n : ℕ) → n ≤ 8 → wrongMoveLength (4 + 2 * n) ≡ false
+  sized-passes n h =
+      length-not-wrong (4 + 2 * n) (record { long = omega arith; short = omega arith; even = omega arith })
 
   known-passes : Known s at → unknownKind kind len ≡ false
   unfolding unknownKind
   known-passes (machine k e) = rw (k, e)
-  known-passes (move k n h e) = rw (k, e) (length-not-wrong (4 + 2 * n) (omega arith) (omega arith) (omega arith))
+  known-passes (bodied (inl k) n h e) = rw (k, e) (sized-passes n h)
+  known-passes (bodied (inr k) n h e) = rw (k, e) (sized-passes n h)
   known-passes (end k e) = rw (k, e)
+  known-passes (withdrawal k e) = rw (k, e)
 
   pub known-means : Whole s at → (unknownKind kind (length body) ≡ false) ↔ Known s at
   known-means w = rw (part-length s (at + 4) len w) (known-of, known-passes)
 
-  -- 5, of a machine of two bytes
-  module _ (two : len ≡ 2) where
-    pub machine-bytes : (byte body 0 ≡ byte s (at + 4)) × (byte body 1 ≡ byte s (at + 5))
-    machine-bytes = (
-      part-byte s (at + 4) len 0 (omega arith) ∙ ap (byte s) (omega arith),
-      part-byte s (at + 4) len 1 (omega arith) ∙ ap (byte s) (omega arith),
-    )
+  -- how many bytes a body has, and that they are the file's
+  pub byte-here : (i : ℕ) → i < len → byte body i ≡ byte s (at + (4 + i))
+  byte-here i h = part-byte s (at + 4) len i h ∙ ap (byte s) (omega arith)
 
-    pub machine-means : (badMachine (byte body 0) (byte body 1) ≡ false) ↔ MachineRight s at
-    machine-means = rw (machine-bytes .0, machine-bytes .1) (machine-fits _ _, machine-not-bad _ _)
+  module _ (known : Known s at) where
+    bytes-told : {i n : ℕ} → unknownKind i len ≡ not (eqb len n) → Kind s at i → len ≡ n
+    bytes-told e k = eqb-true _ _ (not-false _ (sym e ∙ rw k at (known-passes known)))
 
-  module _ (m : Model) where
+    two-bytes : Kind s at 1 → len ≡ 2
+    unfolding unknownKind
+    two-bytes = bytes-told refl
+
+    pub no-bytes : Kind s at 3 → len ≡ 0
+    unfolding unknownKind
+    no-bytes = bytes-told refl
+
+    pub three-bytes : Kind s at 5 → len ≡ 3
+    unfolding unknownKind
+    three-bytes = bytes-told refl
+
+    pub machine-bytes : Kind s at 1 → (byte body 0 ≡ byte s (at + 4)) × (byte body 1 ≡ byte s (at + 5))
+    machine-bytes k = let n = two-bytes k in (byte-here 0 (omega arith), byte-here 1 (omega arith))
+
+    -- 5
+    pub machine-means : (eqb kind 1 && badMachine (byte body 0) (byte body 1) ≡ false)
+        ↔ (Kind s at 1 → MachineRight s at)
+    machine-means =
+        when-means (is-kind kind 1)
+        (λ k. let b = machine-bytes k in rw (b .0, b .1) (machine-fits _ _, machine-not-bad _ _))
+
+  module _ (x : Draft) where
+    abbrev m : Model
+    m = x .sent
+
+    abbrev v : Move
+    v = written s at
+
     -- 4
-    placed-of : outOfPlace m kind ≡ false → InPlace s at m
+    placed-of : outOfPlace m kind ≡ false → InPlace s at x
     unfolding outOfPlace
     placed-of h =
         by-kind kind
@@ -122,26 +135,48 @@ module _ (s : List ℕ) (at : ℕ) where
         let b : leb 250 (moveCount m) ≡ false = search parts in
         move k (omega (arith, eqb-false (machineCount m) 0 a)) (leb-false _ _ b))
         (λ k. end k (omega (arith, eqb-false (machineCount m) 0 (rw k at h))))
-        (λ f g k. absurd (true-false refl (rw (f, g, k) at h)))
+        (λ k. amendment _ (replacement k))
+        (λ k. amendment _ (withdrawal k))
+        (λ a b c d e. absurd (true-false refl (rw (a, b, c, d, e) at h)))
 
-    placed-passes : InPlace s at m → outOfPlace m kind ≡ false
+    placed-passes : InPlace s at x → outOfPlace m kind ≡ false
     unfolding outOfPlace
     placed-passes (machine k e h) =
         rw k (or-false-intro (le-ltb 0 (moveCount m) (omega arith)) (lt-leb 32 (machineCount m) h))
     placed-passes (move k h l) =
         rw k (or-false-intro (ne-eqb (machineCount m) 0 (λ e. omega arith)) (lt-leb 250 (moveCount m) l))
     placed-passes (end k h) = rw k (ne-eqb (machineCount m) 0 (λ e. omega arith))
+    placed-passes (amendment a (replacement k)) = rw k
+    placed-passes (amendment a (withdrawal k)) = rw k
 
-    pub placed-means : (outOfPlace m kind ≡ false) ↔ InPlace s at m
+    pub placed-means : (outOfPlace m kind ≡ false) ↔ InPlace s at x
     placed-means = (placed-of, placed-passes)
 
--- 6, 7 and 8; 7 where each machine has a mode
-module _ (m : Model) (v : Move) where
-  pub modes-mean : (badMove (m .modes) (m .live) v ≡ false) ↔ ModesRight m v
-  modes-mean = (modes-fit m v, modes-pass m v)
+    -- 6, 7 and 8; 7 where each machine has a mode
+    pub modes-mean : ((eqb kind 2 || eqb kind 4) && badMove (m .modes) (m .live) v ≡ false)
+        ↔ (Bodied s at → ModesRight m v)
+    modes-mean = when-means (is-either kind 2 4) (λ k. (modes-fit m v, modes-pass m v))
 
-  pub needs-mean : Valid m → (badGuards (m .modes) v ≡ false) ↔ NeedsRight m v
-  needs-mean ok = (needs-fit m v, needs-pass m v (λ i h. ok .machines-valid i h .has-mode))
+    pub needs-mean : Valid m
+        → ((eqb kind 2 || eqb kind 4) && badGuards (m .modes) v ≡ false) ↔ (Bodied s at → NeedsRight m v)
+    needs-mean ok =
+        when-means (is-either kind 2 4)
+        (λ k. (needs-fit m v, needs-pass m v (λ i h. ok .machines-valid i h .has-mode)))
 
-  pub command-means : (badCommand (m .moves) v ≡ false) ↔ CommandRight m v
-  command-means = (command-fits m v, command-passes m v)
+    command-of : badCommandOf m kind v ≡ false → CommandFits s at x
+    unfolding badCommandOf
+    command-of h =
+        by-cases (eqb kind 2)
+        (λ t. let right = command-fits m v (rw t at h) in record { some = right .some; new = λ k. right })
+        (λ f. record { some = eqb-false _ _ (rw f at h); new = λ k. absurd (eqb-false kind 2 f k) })
+
+    command-fit-passes : CommandFits s at x → badCommandOf m kind v ≡ false
+    unfolding badCommandOf
+    command-fit-passes h =
+        by-cases (eqb kind 2)
+        (λ t. rw t (command-passes m v (h .new (eqb-true kind 2 t))))
+        (λ f. rw f (ne-eqb (v .command) 0 (h .some)))
+
+    pub command-means : ((eqb kind 2 || eqb kind 4) && badCommandOf m kind v ≡ false)
+        ↔ (Bodied s at → CommandFits s at x)
+    command-means = when-means (is-either kind 2 4) (λ k. (command-of, command-fit-passes))

@@ -1,55 +1,63 @@
--- Each turn reads one more machine, of six bytes, or one more move, of at most twenty-four.
+-- Each turn reads one record more: a machine, of six bytes, or a move or an amendment, of at most twenty-four.
 -- Assumes nothing.
 use Prim.Native.Nat.{ℕ, _+_, _*_, _≤_}
 use mathlib.Core.Path.{_≡_}
-use mathlib.Core.Logic.{_⊎_, inl, inr, ⊎-elim}
+use mathlib.Core.Logic.{_⊎_, ⊎-elim}
 use mathlib.Core.List.{List}
 use native.Mathlib.Omega.{arith}
+use lib.ListN.{length}
 use Rattle.common.specs.Reply.{given}
 use Rattle.common.proofs.Snoc.{length-snoc}
 use Rattle.sheet.specs.declared.record.Record.the-variants.{Whole}
 use Rattle.sheet.specs.Record.{byte, recordAt, part}
 use Rattle.sheet.specs.Model.{machineCount, moveCount, moveOf, withMachine, withMove}
-use Rattle.sheet.specs.Parse.{Parsed, extended, more, turnAt}
+use Rattle.sheet.specs.Amend.{Draft}
+use Rattle.sheet.specs.Parse.{Progress, extended, more, turnAt}
 use Rattle.sheet.proofs.Records.{whole-at, part-length}
 use Rattle.sheet.proofs.Turns.{goes-on}
-use Rattle.sheet.proofs.Valid.{machine-or-move}
+use Rattle.sheet.proofs.Fits.{MoveSize}
+use Rattle.sheet.proofs.Drafts.{Passing, machine, move, amendment, passing}
+use Rattle.sheet.proofs.Drafts.{reads-machine, reads-move, reads-amendment}
 
--- how many more machines and moves, and how many bytes they take at most
-pub record Grown (d e : Parsed) (machines moves at next : ℕ) : Type 0 where
-  pub machines-read : machineCount (e .model) ≡ machineCount (d .model) + machines
-  pub moves-read : moveCount (e .model) ≡ moveCount (d .model) + moves
-  pub bytes-read : next ≤ at + (6 * machines + 24 * moves)
+-- the records of a draft, and how many bytes they take at most
+abbrev pub records : Draft → ℕ
+records x = machineCount (x .sent) + moveCount (x .sent) + x .amended
 
-module _ (d : Parsed) (body : List ℕ) (at next : ℕ) where
-  pub grown-machine : next ≤ at + 6 → Grown d (extended d 1 at body) 1 0 at next
-  unfolding extended withMachine
-  grown-machine h =
-      record {
-        machines-read = omega (arith, length-snoc (d .model .modes) (byte body 0));
-        moves-read = omega arith;
-        bytes-read = omega arith;
-      }
+abbrev pub reach : Draft → ℕ
+reach x = 6 * machineCount (x .sent) + 24 * moveCount (x .sent) + 24 * x .amended
 
-  pub grown-move : next ≤ at + 24 → Grown d (extended d 2 at body) 0 1 at next
-  unfolding extended withMove
-  grown-move h =
-      record {
-        machines-read = omega arith;
-        moves-read = omega (arith, length-snoc (d .model .moves) (moveOf body));
-        bytes-read = omega arith;
-      }
+-- one record more
+pub record Grown (x y : Draft) (at next : ℕ) : Type 0 where
+  pub one-more : records y ≡ records x + 1
+  pub bytes-read : next + reach x ≤ at + reach y
 
-pub one-more : (s : List ℕ) (at : ℕ) (d : Parsed) (kind start len next : ℕ) (e : Parsed)
+pub amendment-short : {kind n : ℕ} → (kind ≡ 4 → MoveSize n) → (kind ≡ 5 → n ≡ 3) → (kind ≡ 4) ⊎ (kind ≡ 5) → n ≤ 20
+amendment-short four five k = ⊎-elim (λ e. omega (arith, four e .short)) (λ e. omega (arith, five e)) k
+
+module _ (d : Progress) (at next kind : ℕ) (body : List ℕ) (behind : next ≡ at + 4 + length body) where
+  pub grown : Passing (d .draft) kind body → Grown (d .draft) (extended d kind at body .draft) at next
+  unfolding withMachine withMove
+  grown (machine k p) =
+      rw (k, reads-machine d at body)
+      (let n = length-snoc (d .draft .sent .modes) (byte body 0) in
+      record { one-more = omega arith; bytes-read = omega (arith, p .two-bytes) })
+  grown (move k p none) =
+      rw (k, reads-move d at body)
+      (let n = length-snoc (d .draft .sent .moves) (moveOf body) in
+      record { one-more = omega arith; bytes-read = omega (arith, p .size .short) })
+  grown (amendment k p) =
+      rw (reads-amendment d at body kind k)
+      (let n = amendment-short (p .size .0) (p .size .1) k in
+      record { one-more = omega arith; bytes-read = omega arith })
+
+pub grown-turn : (s : List ℕ) (at : ℕ) (d : Progress) (kind start len next : ℕ) (e : Progress)
     → recordAt s at ≡ Whole kind start len → turnAt s at d kind start len ≡ given (more next e)
-    → Grown d e 1 0 at next ⊎ Grown d e 0 1 at next
-one-more s at d kind start len next e w q =
+    → Grown (d .draft) (e .draft) at next
+grown-turn s at d kind start len next e w q =
     let g = goes-on s at d kind start len q in
     let h = whole-at s at w in
     let body = part s start len in
     let k = part-length s start len (h .within) in
     rw (← g .reads)
-    (⊎-elim
-    (λ c. inl (rw (c .0) (grown-machine d body at next (omega (arith, c .1 .two-bytes, g .goes-behind)))))
-    (λ c. inr (rw (c .0) (grown-move d body at next (omega (arith, c .1 .short, g .goes-behind)))))
-    (machine-or-move (d .model) at kind body (g .clear) (g .no-end)))
+    (grown d at next kind body (omega (arith, h .starts, g .goes-behind))
+    (passing (d .draft) at kind body (g .clear) (g .no-end)))

@@ -3,20 +3,22 @@
 use Prim.Native.Nat.{ℕ, suc, _-_, _%_, _≤_, _<_}
 use mathlib.Core.Path.{_≡_, sym}
 use mathlib.Core.List.{List}
-use mathlib.Core.Bool.{Bool, false, _&&_}
+use mathlib.Core.Bool.{Bool, true, false, not, _&&_}
 use native.Mathlib.Numerals.{sub-one}
 use native.Mathlib.Omega.{arith}
 use borrow.Author.Tests.{ltb-false, leb-true, leb-false, eqb-true, eqb-false, not-false, lt-ltb, eq-eqb}
 use lib.Dec.{eqb, ltb, leb}
 use lib.ListN.{length, List·getD-eq-default}
+use Rattle.common.specs.Lists.{any}
 use Rattle.common.proofs.Bools.{by-cases, true-false, and-intro, or-false-left, or-false-right}
 use Rattle.common.proofs.Lists.{any-none}
 use Rattle.common.proofs.Members.{upTo-mem, mem-getD}
 use Rattle.common.proofs.Reply.{Clear}
 use Rattle.sheet.specs.Record.{byte}
-use Rattle.sheet.specs.Model.{Move, Model, noMove, machineCount, moveCount, modeCount, guardAt, moveOf}
-use Rattle.sheet.specs.Faults.{wrongMoveLength, badMachine, badMove, badGuard, badGuards, sameMove, badCommand}
-use Rattle.sheet.specs.Faults.{machineFaults, moveFaults}
+use Rattle.sheet.specs.Model.{Move, Model, noMove, machineCount, moveCount, modeCount, guardAt, moveOf, sameMove}
+use Rattle.sheet.specs.Faults.{wrongMoveLength, badMachine, badMove, badGuard, badGuards, badCommand}
+use Rattle.sheet.specs.Amend.{Amendment, named, amendmentOf, Draft}
+use Rattle.sheet.specs.Faults.{machineFaults, moveFaults, unamendable, replaceFaults, withdrawFaults}
 use Rattle.sheet.specs.Valid.{ValidGuard, ValidMove, ValidMachine}
 use Rattle.sheet.specs.Faulty.{ModesRight, NeedsRight, CommandRight}
 use Rattle.sheet.proofs.Guards.{guard-count}
@@ -96,8 +98,8 @@ module _ (m : Model) (v : Move) where
             (any-none (sameMove v) (or-false-right (eqb (v .command) 0) _ fine) (mem-getD (m .moves) w noMove h));
       }
 
-  pub move-fits : length (v .guards) ≤ 8 → ModesRight m v → NeedsRight m v → CommandRight m v → ValidMove m v
-  move-fits few modes needs command =
+  pub move-fits : length (v .guards) ≤ 8 → ModesRight m v → NeedsRight m v → (v .command ≡ 0 → ⊥) → ValidMove m v
+  move-fits few modes needs given =
       record {
         present = modes .present;
         from-present = modes .from-present;
@@ -105,7 +107,7 @@ module _ (m : Model) (v : Move) where
         moves-on = modes .moves-on;
         from-live = modes .from-live;
         to-live = modes .to-live;
-        command-given = command .some;
+        command-given = given;
         few-guards = few;
         guards-valid = needs .each;
         guards-rise = needs .rise;
@@ -118,11 +120,23 @@ pub record MachinePasses (m : Model) (body : List ℕ) : Type 0 where
   pub room : machineCount m < 32
   pub valid : ValidMachine (byte body 0) (byte body 1)
 
+-- the length of a move's body
+pub record MoveSize (n : ℕ) : Type 0 where
+  pub long : 4 ≤ n
+  pub short : n ≤ 20
+  pub even : n % 2 ≡ 0
+
+pub length-fits : (n : ℕ) → wrongMoveLength n ≡ false → MoveSize n
+unfolding wrongMoveLength
+length-fits n h =
+    let a : ltb n 4 ≡ false = search parts in
+    let b : ltb 20 n ≡ false = search parts in
+    let e : eqb (n % 2) 1 ≡ false = search parts in
+    record { long = ltb-false _ _ a; short = ltb-false _ _ b; even = omega (arith, eqb-false (n % 2) 1 e) }
+
 -- and a move record
 pub record MovePasses (m : Model) (body : List ℕ) : Type 0 where
-  pub long : 4 ≤ length body
-  pub short : length body ≤ 20
-  pub even : length body % 2 ≡ 0
+  pub size : MoveSize (length body)
   pub has-machine : 0 < machineCount m
   pub room : moveCount m < 250
   pub valid : ValidMove m (moveOf body)
@@ -142,21 +156,58 @@ module _ (m : Model) (at : ℕ) (body : List ℕ) where
       }
 
   pub move-passes : Clear (moveFaults m at body) → MovePasses m body
-  unfolding moveFaults wrongMoveLength
+  unfolding moveFaults
   move-passes c =
-      let a : ltb (length body) 4 ≡ false = search parts in
-      let b : ltb 20 (length body) ≡ false = search parts in
-      let e : eqb (length body % 2) 1 ≡ false = search parts in
+      let n = length-fits (length body) (c .0) in
       let f : eqb (machineCount m) 0 ≡ false = search parts in
       let g : leb 250 (moveCount m) ≡ false = search parts in
+      let command = command-fits m (moveOf body) (c .1 .1 .1 .1 .0) in
       record {
-        long = ltb-false _ _ a;
-        short = ltb-false _ _ b;
-        even = omega (arith, eqb-false (length body % 2) 1 e);
+        size = n;
         has-machine = omega (arith, eqb-false (machineCount m) 0 f);
         room = leb-false _ _ g;
         valid =
-            move-fits m (moveOf body) (omega (arith, guard-count body, ltb-false))
-            (modes-fit m _ (c .1 .1 .0)) (needs-fit m _ (c .1 .1 .1 .0)) (command-fits m _ (c .1 .1 .1 .1 .0));
-        command = command-fits m _ (c .1 .1 .1 .1 .0);
+            move-fits m (moveOf body) (omega (arith, guard-count body, n .short))
+            (modes-fit m _ (c .1 .1 .0)) (needs-fit m _ (c .1 .1 .1 .0)) (command .some);
+        command = command;
+      }
+
+-- an amendment record that passes: such a move stands, and a 64th amendment is not behind it
+pub record AmendmentPasses (x : Draft) (kind : ℕ) (body : List ℕ) : Type 0 where
+  pub size : (kind ≡ 4 → MoveSize (length body)) × (kind ≡ 5 → length body ≡ 3)
+  pub valid : kind ≡ 4 → ValidMove (x .sent) (moveOf body)
+  pub some : any (sameMove (named (amendmentOf kind body))) (x .standing) ≡ true
+  pub room : x .amended < 64
+
+pub amendable : (x : Draft) (a : Amendment) → unamendable x a ≡ false
+    → (any (sameMove (named a)) (x .standing) ≡ true) × (x .amended < 64)
+unfolding unamendable
+amendable x a h =
+    let some : Bool = any (sameMove (named a)) (x .standing) in
+    (not-false some (or-false-left (not some) _ h), leb-false _ _ (or-false-right (not some) _ h))
+
+module _ (x : Draft) (at : ℕ) (body : List ℕ) where
+  pub replace-passes : Clear (replaceFaults x at body) → AmendmentPasses x 4 body
+  unfolding replaceFaults
+  replace-passes c =
+      let n = length-fits (length body) (c .0) in
+      let a = amendable x (amendmentOf 4 body) (c .1 .1 .1 .1 .0) in
+      record {
+        size = (λ k. n, λ k. absurd (let f : ⊥ = omega arith in f));
+        valid = λ k.
+            move-fits (x .sent) (moveOf body) (omega (arith, guard-count body, n .short))
+            (modes-fit (x .sent) _ (c .1 .0)) (needs-fit (x .sent) _ (c .1 .1 .0)) (eqb-false _ _ (c .1 .1 .1 .0));
+        some = a .0;
+        room = a .1;
+      }
+
+  pub withdraw-passes : Clear (withdrawFaults x at body) → AmendmentPasses x 5 body
+  unfolding withdrawFaults
+  withdraw-passes c =
+      let a = amendable x (amendmentOf 5 body) (c .1 .0) in
+      record {
+        size = (λ k. absurd (let f : ⊥ = omega arith in f), λ k. eqb-true _ _ (not-false _ (c .0)));
+        valid = λ k. absurd (let f : ⊥ = omega arith in f);
+        some = a .0;
+        room = a .1;
       }

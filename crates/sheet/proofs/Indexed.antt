@@ -60,14 +60,15 @@ module _ {s : List ℕ} {x : Sheet} {m : Model} (i : Indexes s x m) where
       let long = length-pad 250 (i .parsed .places) (omega (arith, few, paired)) in
       omega (arith, ap (λ y. length (y .places)) (i .index), long, indexes-moves, indexes-valid .few-moves)
 
+  pub indexes-lent : (v : ℕ) → v < moveCount m → Stands s (getD (take (x .moves) (x .places)) v 0) (moveAt m v)
+  indexes-lent v h = rw (getD-take (x .moves) (x .places) v 0 (omega (arith, indexes-moves))) (indexes-stands v h)
+
   pub indexes-listed : Listed m s (take (x .moves) (x .places))
   indexes-listed =
-      let at : (v : ℕ) → v < moveCount m → Stands s (getD (take (x .moves) (x .places)) v 0) (moveAt m v) =
-      λ v h. rw (getD-take (x .moves) (x .places) v 0 (omega (arith, indexes-moves))) (indexes-stands v h) in
       record {
         one-each = length-take-le _ _ indexes-room ∙ indexes-moves;
-        long = λ v h. at v h .long;
-        each = λ v h. at v h .read;
+        long = λ v h. indexes-lent v h .long;
+        each = λ v h. indexes-lent v h .read;
       }
 
 -- A move by the place where its record begins

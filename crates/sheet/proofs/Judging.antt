@@ -8,15 +8,16 @@ use native.Mathlib.Omega.{arith}
 use borrow.Author.Tests.{leb-false, ltb-false, lt-ltb, le-ltb, le-leb, lt-leb, eq-eqb, ne-eqb}
 use lib.Dec.{eqb}
 use lib.ListN.{length}
-use Rattle.common.specs.Reply.{refused, fault, unless}
+use Rattle.common.specs.Reply.{Reply, refused, Fault, fault, unless}
 use Rattle.common.proofs.Bools.{or-false-left}
 use Rattle.common.proofs.Pad.{getD-pad}
 use Rattle.sheet.specs.declared.judge.Counts.{Counts}
 use Rattle.sheet.specs.Record.{byte}
 use Rattle.sheet.specs.Model.{Model, modeCount, moveOf}
 use Rattle.sheet.specs.Faults.{wrongMoveLength, badMachine, badMove, badGuards}
-use Rattle.sheet.specs.Faults.{machineFaults, endFaults, faultsOf}
-use Rattle.sheet.specs.Kept.Held.{fine, deadMove, wrongGuards, ownMoveFaults, ownFaults, Counted, Held}
+use Rattle.sheet.specs.Faults.{machineFaults, endFaults}
+use Rattle.sheet.specs.Kept.Held.{fine, deadMove, wrongGuards, bodyFaults, ownMoveFaults, ownReplaceFaults}
+use Rattle.sheet.specs.Kept.Held.{ownWithdrawFaults, ownFaults, Counted, Held}
 use Rattle.sheet.specs.Kept.Sent.{Small}
 use Rattle.sheet.proofs.Fits.{has-modes}
 use Rattle.sheet.proofs.BadMoves.{bad-move-dead}
@@ -44,7 +45,7 @@ move-long n e f = ltb-false _ _ (or-false-left _ _ (or-false-left _ _ (sym e ∙
 -- the causes that are judged here, by the kind of the record
 module _ (m : Model) (at kind : ℕ) (body : List ℕ) where
   pub own-machine : kind ≡ 1 → ownFaults m at kind body ≡ machineFaults m at body
-  unfolding ownFaults faultsOf
+  unfolding ownFaults
   own-machine k = rw k
 
   pub own-move : kind ≡ 2 → ownFaults m at kind body ≡ ownMoveFaults m at body
@@ -52,16 +53,21 @@ module _ (m : Model) (at kind : ℕ) (body : List ℕ) where
   own-move k = rw k
 
   pub own-end : kind ≡ 3 → ownFaults m at kind body ≡ endFaults m at body
-  unfolding ownFaults faultsOf
+  unfolding ownFaults
   own-end k = rw k
 
-  pub own-unknown : (kind ≡ 1 → ⊥) → (kind ≡ 2 → ⊥) → (kind ≡ 3 → ⊥) → ownFaults m at kind body ≡ fault 2 at true ∷ []
-  unfolding ownFaults faultsOf
-  own-unknown a b c = rw (ne-eqb kind 1 a, ne-eqb kind 2 b, ne-eqb kind 3 c)
-
-  pub own-other : (kind ≡ 2 → ⊥) → ownFaults m at kind body ≡ faultsOf m at kind body
+  pub own-replace : kind ≡ 4 → ownFaults m at kind body ≡ ownReplaceFaults m at body
   unfolding ownFaults
-  own-other b = rw (ne-eqb kind 2 b)
+  own-replace k = rw k
+
+  pub own-withdraw : kind ≡ 5 → ownFaults m at kind body ≡ ownWithdrawFaults at body
+  unfolding ownFaults
+  own-withdraw k = rw k
+
+  pub own-unknown : (kind ≡ 1 → ⊥) → (kind ≡ 2 → ⊥) → (kind ≡ 3 → ⊥) → (kind ≡ 4 → ⊥) → (kind ≡ 5 → ⊥)
+      → ownFaults m at kind body ≡ fault 2 at true ∷ []
+  unfolding ownFaults
+  own-unknown a b c d e = rw (ne-eqb kind 1 a, ne-eqb kind 2 b, ne-eqb kind 3 c, ne-eqb kind 4 d, ne-eqb kind 5 e)
 
 -- what is found in a machine record, test by test
 module _ (m : Model) (at : ℕ) {counts : Counts} (body : List ℕ) (n : Counted m counts) where
@@ -88,15 +94,9 @@ module _ (m : Model) (at : ℕ) {counts : Counts} (body : List ℕ) (n : Counted
     unfolding unless machineFaults
     machine-fine t = rw (eq-eqb _ _ h, n .moves-are, le-ltb _ _ g, n .machines-are, lt-leb _ _ k, ← b, t)
 
--- what is found in a move record, test by test: 2
-pub move-length : (m : Model) (at : ℕ) (body : List ℕ) {a : Bool} → a ≡ wrongMoveLength (length body) → a ≡ true
-    → refused 2 at ≡ unless (ownMoveFaults m at body) fine
-unfolding unless ownMoveFaults
-move-length m at body e t = rw (← e, t)
-
--- and by what is held: 4, 6, 7, and 8 for no command
+-- what is found in the body of a move or of its replacement, test by test: 6, 7, and 8 for no command
 module _ (m : Model) (at : ℕ) {counts : Counts} {tops live : List ℕ} (body : List ℕ) (h : Held m counts tops live)
-    {a : Bool} (e : a ≡ wrongMoveLength (length body)) (f : a ≡ false) where
+    {a : Bool} (e : a ≡ deadMove live (moveOf body)) where
   held-dead : badMove (m .modes) (m .live) (moveOf body) ≡ deadMove live (moveOf body)
   unfolding deadMove
   held-dead = bad-move-dead _ _ _ (h .live-within _) ∙ rw (h .live-in, getD-pad)
@@ -104,49 +104,56 @@ module _ (m : Model) (at : ℕ) {counts : Counts} {tops live : List ℕ} (body :
   held-guards : badGuards (m .modes) (moveOf body) ≡ wrongGuards tops (moveOf body)
   held-guards = rw (h .tops-in) (sym (guards-by-tops _ _))
 
+  held-body : unless (bodyFaults m at body) fine
+      ≡ unless
+      (fault 6 at a
+      ∷ fault 7 at (wrongGuards tops (moveOf body))
+      ∷ fault 8 at (eqb (moveOf body .command) 0)
+      ∷ []) fine
+  unfolding bodyFaults
+  held-body = rw (held-dead, ← e, held-guards)
+
+  pub body-bad : a ≡ true → refused 6 at ≡ unless (bodyFaults m at body) fine
+  unfolding unless
+  body-bad t = sym (held-body ∙ rw t)
+
+  module _ {b : Bool} (f : a ≡ false) (g : b ≡ wrongGuards tops (moveOf body)) where
+    pub body-guards : b ≡ true → refused 7 at ≡ unless (bodyFaults m at body) fine
+    unfolding unless
+    body-guards t = sym (held-body ∙ rw (f, ← g, t))
+
+    pub body-silent : b ≡ false → byte body 3 ≡ 0 → refused 8 at ≡ unless (bodyFaults m at body) fine
+    unfolding unless moveOf
+    body-silent w y = sym (held-body ∙ rw (f, ← g, w, eq-eqb _ _ y))
+
+    pub body-fine : b ≡ false → (byte body 3 ≡ 0 → ⊥) → fine ≡ unless (bodyFaults m at body) fine
+    unfolding unless moveOf
+    body-fine w y = sym (held-body ∙ rw (f, ← g, w, ne-eqb _ _ y))
+
+-- 2 for the record of a move or of its replacement, before other causes
+module _ (at : ℕ) (body : List ℕ) (fs : List Fault) {a : Bool} (e : a ≡ wrongMoveLength (length body)) where
+  pub length-wrong : a ≡ true → refused 2 at ≡ unless (fault 2 at (wrongMoveLength (length body)) ∷ fs) fine
+  unfolding unless
+  length-wrong t = rw (← e, t)
+
+  pub length-right : {r : Reply Unit} → a ≡ false → r ≡ unless fs fine
+      → r ≡ unless (fault 2 at (wrongMoveLength (length body)) ∷ fs) fine
+  unfolding unless
+  length-right f q = rw (← e, f) q
+
+-- 4 for the record of a move
+module _ (m : Model) (at : ℕ) {counts : Counts} (body : List ℕ) (n : Counted m counts) {a : Bool}
+    (e : a ≡ wrongMoveLength (length body)) (f : a ≡ false) where
   pub move-early : counts .machines ≡ 0 → refused 4 at ≡ unless (ownMoveFaults m at body) fine
   unfolding unless ownMoveFaults
-  move-early z = rw (← e, f, h .counted .machines-are, eq-eqb _ _ z)
+  move-early z = rw (← e, f, n .machines-are, eq-eqb _ _ z)
 
   module _ (z : counts .machines ≡ 0 → ⊥) where
     pub move-many : 250 ≤ counts .moves → refused 4 at ≡ unless (ownMoveFaults m at body) fine
     unfolding unless ownMoveFaults
-    move-many k = rw (← e, f, h .counted .machines-are, ne-eqb _ _ z, h .counted .moves-are, le-leb _ _ k)
+    move-many k = rw (← e, f, n .machines-are, ne-eqb _ _ z, n .moves-are, le-leb _ _ k)
 
-    module _ {b : Bool} (k : counts .moves < 250) (eb : b ≡ deadMove live (moveOf body)) where
-      placed : unless (ownMoveFaults m at body) fine
-          ≡ unless
-          (fault 6 at b
-          ∷ fault 7 at (wrongGuards tops (moveOf body))
-          ∷ fault 8 at (eqb (moveOf body .command) 0)
-          ∷ []) fine
-      unfolding unless ownMoveFaults
-      placed =
-          rw (
-            ← e,
-            f,
-            h .counted .machines-are,
-            ne-eqb _ _ z,
-            h .counted .moves-are,
-            lt-leb _ _ k,
-            held-dead,
-            ← eb,
-            held-guards,
-          )
-
-      pub move-bad : b ≡ true → refused 6 at ≡ unless (ownMoveFaults m at body) fine
-      unfolding unless
-      move-bad q = sym (placed ∙ rw q)
-
-      module _ {c : Bool} (q : b ≡ false) (ec : c ≡ wrongGuards tops (moveOf body)) where
-        pub move-guards : c ≡ true → refused 7 at ≡ unless (ownMoveFaults m at body) fine
-        unfolding unless
-        move-guards w = sym (placed ∙ rw (q, ← ec, w))
-
-        pub move-silent : c ≡ false → byte body 3 ≡ 0 → refused 8 at ≡ unless (ownMoveFaults m at body) fine
-        unfolding unless moveOf
-        move-silent w y = sym (placed ∙ rw (q, ← ec, w, eq-eqb _ _ y))
-
-        pub move-fine : c ≡ false → (byte body 3 ≡ 0 → ⊥) → fine ≡ unless (ownMoveFaults m at body) fine
-        unfolding unless moveOf
-        move-fine w y = sym (placed ∙ rw (q, ← ec, w, ne-eqb _ _ y))
+    pub move-placed : {r : Reply Unit} → counts .moves < 250 → r ≡ unless (bodyFaults m at body) fine
+        → r ≡ unless (ownMoveFaults m at body) fine
+    unfolding unless ownMoveFaults
+    move-placed k q = q ∙ rw (← e, f, n .machines-are, ne-eqb _ _ z, n .moves-are, lt-leb _ _ k)

@@ -2,18 +2,17 @@
 -- Assumes nothing.
 use Prim.Native.Nat.{_+_, _*_}
 use mathlib.Core.Path.{_≡_, sym, _∙_}
-use mathlib.Core.Bool.{_&&_}
 use mathlib.Core.List.{List, map, List·Memᴰ}
 use native.Mathlib.Omega.{arith}
 use native.Mathlib.Nat.{mod-eq-of-lt}
 use borrow.Author.Tests.{eqb-true, eq-eqb}
 use lib.Dec.{eqb}
 use Rattle.common.specs.Lists.{any}
-use Rattle.common.proofs.Bools.{bool-ext, and-intro, and-left, and-right}
+use Rattle.common.proofs.Bools.{bool-ext}
 use Rattle.common.proofs.Lists.{any-map, any-cong}
-use Rattle.sheet.specs.Model.{Move}
-use Rattle.sheet.specs.Faults.{sameMove}
+use Rattle.sheet.specs.Model.{Move, sameMove}
 use Rattle.sheet.specs.Kept.Sent.{keyOf, Small}
+use Rattle.sheet.proofs.Same.{same-intro, same-machine, same-from, same-command}
 
 pub key-small : (v : Move) → Small v → keyOf v ≡ 2048 * v .machine + 256 * v .from + v .command
 unfolding keyOf
@@ -21,7 +20,6 @@ key-small v a = mod-eq-of-lt (omega (arith, a .machine, a .from, a .command))
 
 -- moves of small numbers with the same key are the same by machine, from mode and command
 pub key-tells : (v w : Move) → Small v → Small w → eqb (keyOf v) (keyOf w) ≡ sameMove v w
-unfolding sameMove
 key-tells v w a b =
     bool-ext
     (λ t.
@@ -29,15 +27,10 @@ key-tells v w a b =
     sym (key-small v a) ∙ eqb-true _ _ t ∙ key-small w b in
     let x : v .machine ≡ w .machine = omega (arith, a .from, b .from, a .command, b .command) in
     let y : v .from ≡ w .from = omega (arith, a .command, b .command) in
-    let z : v .command ≡ w .command = omega arith in
-    and-intro (and-intro (eq-eqb _ _ x) (eq-eqb _ _ y)) (eq-eqb _ _ z))
+    same-intro v w x y (omega arith))
     (λ t.
-    let x : v .machine ≡ w .machine = eqb-true _ _ (and-left _ _ (and-left _ _ t)) in
-    let y : v .from ≡ w .from = eqb-true _ _ (and-right (eqb (v .machine) (w .machine)) _ (and-left _ _ t)) in
-    let z : v .command ≡ w .command =
-    eqb-true _ _ (and-right (eqb (v .machine) (w .machine) && eqb (v .from) (w .from)) _ t) in
     let e : 2048 * v .machine + 256 * v .from + v .command ≡ 2048 * w .machine + 256 * w .from + w .command =
-    omega arith in
+    omega (arith, same-machine v w t, same-from v w t, same-command v w t) in
     eq-eqb _ _ (key-small v a ∙ e ∙ sym (key-small w b)))
 
 -- a key among those of some moves: one of them is the same

@@ -1,7 +1,7 @@
 -- A valid machine and a valid move of the model pass the causes 2 and 4 to 8: the other way round of `Fits`.
 -- Assumes nothing.
 use Prim.Native.Nat.{ℕ, zero, suc, _-_, _%_, _≤_, _<_}
-use mathlib.Core.Path.{_≡_, sym}
+use mathlib.Core.Path.{_≡_, refl, sym}
 use mathlib.Core.List.{List}
 use mathlib.Core.Bool.{Bool, true, false, _&&_}
 use native.Mathlib.Numerals.{sub-one}
@@ -14,12 +14,14 @@ use Rattle.common.proofs.Bools.{or-false-intro, not-of-true, and-left, and-righ
 use Rattle.common.proofs.Lists.{any-fails}
 use Rattle.common.proofs.Members.{upTo-below, mem-index}
 use Rattle.common.proofs.Reply.{Clear}
-use Rattle.sheet.specs.Model.{Move, Model, noMove, machineCount, moveCount, modeCount, moveAt, guardAt}
-use Rattle.sheet.specs.Faults.{wrongMoveLength, badMachine, badMove, badGuard, badGuards, sameMove, badCommand}
-use Rattle.sheet.specs.Faults.{machineFaults, moveFaults, endFaults}
+use Rattle.sheet.specs.Model.{Move, Model, noMove, machineCount, moveCount, modeCount, moveAt, guardAt, sameMove}
+use Rattle.sheet.specs.Faults.{wrongMoveLength, badMachine, badMove, badGuard, badGuards, badCommand}
+use Rattle.sheet.specs.Amend.{amendmentOf, Draft}
+use Rattle.sheet.specs.Faults.{machineFaults, moveFaults, endFaults, unamendable, replaceFaults, withdrawFaults}
 use Rattle.sheet.specs.Valid.{ValidMove, ValidMachine}
 use Rattle.sheet.specs.Faulty.{ModesRight, NeedsRight, CommandRight}
-use Rattle.sheet.proofs.Fits.{MachinePasses, MovePasses}
+use Rattle.sheet.proofs.Same.{same-fields}
+use Rattle.sheet.proofs.Fits.{MachinePasses, MoveSize, MovePasses, AmendmentPasses}
 
 pub machine-not-bad : (modes live : ℕ) → ValidMachine modes live → badMachine modes live ≡ false
 unfolding badMachine
@@ -30,16 +32,6 @@ machine-not-bad modes live h =
       ne-eqb live 0 (h .has-live),
       h .within,
     )
-
--- two moves with the same machine, from mode and command
-pub same-fields : (v w : Move) → sameMove v w ≡ true
-    → (v .machine ≡ w .machine) × (v .from ≡ w .from) × (v .command ≡ w .command)
-unfolding sameMove
-same-fields v w t =
-    let a : Bool = eqb (v .machine) (w .machine) in
-    let b : Bool = eqb (v .from) (w .from) in
-    let both : a && b ≡ true = and-left _ _ t in
-    (eqb-true _ _ (and-left a b both), eqb-true _ _ (and-right a b both), eqb-true _ _ (and-right (a && b) _ t))
 
 module _ (m : Model) (v : Move) where
   pub modes-pass : ModesRight m v → badMove (m .modes) (m .live) v ≡ false
@@ -100,9 +92,9 @@ valid-modes h =
       to-live = h .to-live;
     }
 
-pub length-not-wrong : (n : ℕ) → 4 ≤ n → n ≤ 20 → n % 2 ≡ 0 → wrongMoveLength n ≡ false
+pub length-not-wrong : (n : ℕ) → MoveSize n → wrongMoveLength n ≡ false
 unfolding wrongMoveLength
-length-not-wrong n long short even = rw (le-ltb n 4 long, le-ltb 20 n short, even)
+length-not-wrong n h = rw (le-ltb n 4 (h .long), le-ltb 20 n (h .short), h .even)
 
 module _ (m : Model) (at : ℕ) (body : List ℕ) where
   pub machine-clear : MachinePasses m body → Clear (machineFaults m at body)
@@ -117,7 +109,7 @@ module _ (m : Model) (at : ℕ) (body : List ℕ) where
   unfolding moveFaults
   move-clear some p =
       let v = p .valid in
-      let a = length-not-wrong (length body) (p .long) (p .short) (p .even) in
+      let a = length-not-wrong (length body) (p .size) in
       let present = ne-eqb (machineCount m) 0 (λ e. omega (arith, p .has-machine)) in
       let b = or-false-intro present (lt-leb 250 (moveCount m) (p .room)) in
       let modes = modes-pass m _ (valid-modes v) in
@@ -127,3 +119,23 @@ module _ (m : Model) (at : ℕ) (body : List ℕ) where
   pub end-clear : length body ≡ 0 → 0 < machineCount m → Clear (endFaults m at body)
   unfolding endFaults
   end-clear e h = (not-of-true (eq-eqb _ 0 e), (ne-eqb (machineCount m) 0 (λ z. omega (arith, h)), tt))
+
+-- an amendment that passes
+module _ (x : Draft) (at : ℕ) (body : List ℕ) where
+  still-amendable : {kind : ℕ} → AmendmentPasses x kind body → unamendable x (amendmentOf kind body) ≡ false
+  unfolding unamendable
+  still-amendable p = or-false-intro (not-of-true (p .some)) (lt-leb 64 (x .amended) (p .room))
+
+  pub replace-clear : ((i : ℕ) → i < machineCount (x .sent) → 0 < modeCount (x .sent) i) → AmendmentPasses x 4 body
+      → Clear (replaceFaults x at body)
+  unfolding replaceFaults
+  replace-clear some p =
+      let v = p .valid refl in
+      let a = length-not-wrong (length body) (p .size .0 refl) in
+      let modes = modes-pass (x .sent) _ (valid-modes v) in
+      let needs = needs-pass (x .sent) _ some (record { each = v .guards-valid; rise = v .guards-rise }) in
+      (a, (modes, (needs, (ne-eqb _ 0 (v .command-given), (still-amendable p, tt)))))
+
+  pub withdraw-clear : AmendmentPasses x 5 body → Clear (withdrawFaults x at body)
+  unfolding withdrawFaults
+  withdraw-clear p = (not-of-true (eq-eqb _ 3 (p .size .1 refl)), (still-amendable p, tt))

@@ -1,11 +1,11 @@
 -- The laws of bytes, `recordAt`, `bodyAt` and `part`: a whole record lies within the file.
 -- Assumes nothing.
-use Prim.Native.Nat.{ℕ, _+_, _-_, _≤_, _<_}
+use Prim.Native.Nat.{ℕ, _+_, _-_, _*_, _≤_, _<_}
 use mathlib.Core.Path.{_≡_, refl, sym, ap, _∙_}
 use mathlib.Core.List.{List, []}
 use native.Mathlib.Nat.{add-sub-cancel-left}
 use native.Mathlib.Omega.{arith}
-use borrow.Author.Tests.{ltb-false, leb-false, lt-ltb, le-ltb, lt-leb}
+use borrow.Author.Tests.{ltb-true, ltb-false, leb-false, lt-ltb, le-ltb, lt-leb}
 use lib.Dec.{ltb, leb}
 use lib.ListN.{length, take, drop, length-take, length-drop, List·getD-eq-default}
 use lib.Seq.{getD-take, getD-drop}
@@ -89,6 +89,31 @@ cut-short s at h =
     by-cases (ltb (length s - at) 4) (λ t. rw (f, t)) (λ g.
     rw (f, g, lt-ltb (length s - at - 4) (word s at) (omega (arith, leb-false, ltb-false)))))
 
+-- how reading tells: by the last place where a header can stand
+module _ (s : List ℕ) (at : ℕ) where
+  pub no-header : length s < 4 → Cut ≡ recordAt s at
+  no-header h = sym (cut-short s at (omega arith))
+
+  module _ {last : ℕ} (e : last ≡ length s - 4) (some : 4 ≤ length s) where
+    pub header-past : last < at → Cut ≡ recordAt s at
+    header-past h = sym (cut-short s at (omega arith))
+
+    module _ {len kind : ℕ} (n : len ≡ byte s at + 256 * byte s (at + 1))
+        (k : kind ≡ byte s (at + 2) + 256 * byte s (at + 3)) (in-file : at ≤ last) where
+      is-len : word s at ≡ len
+      unfolding word
+      is-len = sym n
+
+      is-kind : word s (at + 2) ≡ kind
+      unfolding word
+      is-kind = sym (k ∙ ap (λ i. byte s (at + 2) + 256 * byte s i) (omega arith))
+
+      pub body-cut : last - at < len → Cut ≡ recordAt s at
+      body-cut h = sym (cut-short s at (omega (arith, is-len)))
+
+      pub body-in : len ≤ last - at → Whole kind (at + 4) len ≡ recordAt s at
+      body-in h = sym (whole-here s at (omega (arith, is-len)) ∙ rw (is-len, is-kind))
+
 -- a part of a file has its length, and its bytes are the file's
 pub part-length : (s : List ℕ) (start len : ℕ) → start + len ≤ length s → length (part s start len) ≡ len
 unfolding part
@@ -117,3 +142,12 @@ module _ (s : List ℕ) (at : ℕ) where
     body-byte n h =
         let b = body-of (recordAt s at) refl some in
         sym (ap (λ l. byte l n) (b .0) ∙ part-byte s (at + 4) (word s at) n (omega (arith, body-word)))
+
+  -- and is bytes where the file is
+  pub body-is-bytes : ((i : ℕ) → byte s i < 256) → (n : ℕ) → byte (bodyAt s at) n < 256
+  body-is-bytes bytes n =
+      by-cases (ltb n (length (bodyAt s at)))
+      (λ t.
+      let l = ltb-true n (length (bodyAt s at)) t in
+      rw (← body-byte (omega arith) n l) (bytes (at + 4 + n)))
+      (λ f. omega (arith, byte-past (bodyAt s at) n (ltb-false _ _ f)))

@@ -2,8 +2,8 @@
 -- ones, and the first that is not right decides.
 -- Assumes nothing.
 use Prim.Native.Nat.{ℕ, zero, suc, _+_, _-_, _≤_, _<_}
-use mathlib.Core.Path.{_≡_, refl, sym, subst, ap, _∙_}
-use mathlib.Core.Logic.{⊎-elim}
+use mathlib.Core.Path.{_≡_, refl, sym, ap, _∙_}
+use mathlib.Core.Logic.{inl, inr, ⊎-elim}
 use mathlib.Core.List.{List}
 use native.Mathlib.Omega.{arith}
 use borrow.Author.Tests.{ltb-true, ltb-false}
@@ -12,40 +12,34 @@ use lib.ListN.{length}
 use Rattle.common.specs.Reply.{given, refused}
 use Rattle.common.proofs.Bools.{by-cases}
 use Rattle.common.proofs.Reply.{Clear, given-not-refused}
-use Rattle.common.proofs.Snoc.{length-snoc}
 use Rattle.sheet.specs.Record.{byte, word, part}
-use Rattle.sheet.specs.Model.{Move, Model, machineCount, moveCount, withMachine, withMove}
-use Rattle.sheet.specs.Valid.{Valid}
+use Rattle.sheet.specs.Model.{Move}
+use Rattle.sheet.specs.Amend.{Amendment, Acts, Draft, emptyDraft, draftMachine, draftMove, draftAmended}
 use Rattle.sheet.specs.Faults.{faultsOf}
-use Rattle.sheet.specs.Faulty.{Kind, written, Known, machine, move, end, Faulty, RecordRight}
-use Rattle.sheet.specs.Faulty.{Front, nothing, TurnedAway, by-record, behind-end, RefusedExactly}
-use Rattle.sheet.specs.Parse.{Parsed, extended, turnOf, parse}
+use Rattle.sheet.specs.Faulty.{Kind, written, Known, machine, bodied, end, withdrawal, Faulty, RecordRight}
+use Rattle.sheet.specs.Faulty.{Amending, replacement, Front, nothing, move, amendment}
+use Rattle.sheet.specs.Faulty.{TurnedAway, by-record, behind-end, RefusedExactly}
+use Rattle.sheet.specs.Parse.{Progress, outset, finished, extended, turnOf, parse}
 use Rattle.sheet.proofs.Records.{whole-here}
 use Rattle.sheet.proofs.Turns.{turn-refused, parse-next, parse-ended, turn-passes, turn-ends, turn-behind}
-use Rattle.sheet.proofs.Valid.{valid-empty, valid-turn}
-use Rattle.sheet.proofs.Series.{Comes, comes-first, comes-moved}
-use Rattle.sheet.proofs.Causes.{machine-bytes}
-use Rattle.sheet.proofs.Faulty.{differ, two-bytes, no-bytes, judged, right-clear, faulty-turn}
+use Rattle.sheet.proofs.Series.{Comes}
+use Rattle.sheet.proofs.Drafts.{ValidDraft, reads-machine, reads-move, reads-amendment}
+use Rattle.sheet.proofs.Counts.{records, grown-turn}
+use Rattle.sheet.proofs.Parsed.{Sound, sound-start, sound-turn}
+use Rattle.sheet.proofs.Amended.{acts-amend}
+use Rattle.sheet.proofs.Causes.{no-bytes, machine-bytes}
+use Rattle.sheet.proofs.Amendable.{amending-kind, amending-late, amending-reads}
+use Rattle.sheet.proofs.Faulty.{judged, right-clear, faulty-turn}
 
--- how many records a model takes, without the end
-abbrev pub records : Model → ℕ
-records m = machineCount m + moveCount m
+-- reading comes to a place, and not to the end of its 347 turns
+pub record Reached (s : List ℕ) (at : ℕ) (x : Draft) : Type 0 where
+  pub left : ℕ
+  pub comes : Comes s left at x
+  pub counted : left + records (comes .before .draft) ≡ 347
+  pub sound : Sound s at (comes .before)
 
-pub machine-counted : (m : Model) (a b : ℕ) → records (withMachine m a b) ≡ records m + 1
-unfolding withMachine
-machine-counted m a b = omega (arith, length-snoc (m .modes) a)
-
-pub move-counted : (m : Model) (v : Move) → records (withMove m v) ≡ records m + 1
-unfolding withMove
-move-counted m v = omega (arith, length-snoc (m .moves) v)
-
--- reading comes to a place, and not to the end of its 283 turns
-pub record Reached (s : List ℕ) (at : ℕ) (m : Model) : Type 0 where
-  pub valid : Valid m
-  pub comes : Comes s (283 - records m) at m
-
-module _ {s : List ℕ} {at : ℕ} {m : Model} (c : Reached s at m) where
-  abbrev d : Parsed
+module _ {s : List ℕ} {at : ℕ} {x : Draft} (c : Reached s at x) where
+  abbrev d : Progress
   d = c .comes .before
 
   abbrev kind : ℕ
@@ -54,37 +48,43 @@ module _ {s : List ℕ} {at : ℕ} {m : Model} (c : Reached s at m) where
   abbrev len : ℕ
   len = word s at
 
-  turns-left : 0 < 283 - records m
-  turns-left = omega (arith, c .valid .few-machines, c .valid .few-moves)
+  abbrev body : List ℕ
+  body = part s (at + 4) len
 
-  read-valid : Valid (d .model)
-  read-valid = rw (c .comes .has-read) (c .valid)
+  turns-left : 0 < c .left
+  turns-left =
+      let ok = c .sound .valid .sent in
+      omega (arith, c .counted, c .sound .few, ok .few-machines, ok .few-moves)
+
+  pub reached-valid : ValidDraft x
+  reached-valid = rw (← c .comes .has-read) (c .sound .valid)
 
   -- a faulty record refuses
-  pub faulty-refuses : {n : ℕ} → Faulty s at m n → parse s ≡ refused n at
+  pub faulty-refuses : {n : ℕ} → Faulty s at x n → parse s ≡ refused n at
   faulty-refuses {n} w =
-      let here : Faulty s at (d .model) n = rw (c .comes .has-read) w in
-      c .comes .goes ∙ turn-refused s at d _ turns-left (faulty-turn s at d read-valid here)
+      let here : Faulty s at (d .draft) n = rw (c .comes .has-read) w in
+      c .comes .goes ∙ turn-refused s at d _ turns-left (faulty-turn s at d (c .sound .valid .sent) here)
 
-  module _ (r : RecordRight s at m) where
-    clear : Clear (faultsOf (d .model) at kind (part s (at + 4) len))
-    clear = rw (c .comes .has-read) (right-clear s at m (c .valid) r)
+  module _ (r : RecordRight s at x) where
+    clear : Clear (faultsOf (d .draft) at kind body)
+    clear = rw (c .comes .has-read) (right-clear s at x (reached-valid .sent) r)
 
-    -- a right machine or move leads on
-    pub leads-on : (Kind s at 3 → ⊥) → {e : Model} → records e ≡ records m + 1
-        → extended d kind at (part s (at + 4) len) .model ≡ e → Reached s (at + 4 + len) e
-    leads-on more {e} one reads =
+    -- a right record that is no end leads on
+    pub leads-on : (Kind s at 3 → ⊥) → {e : Draft} → extended d kind at body .draft ≡ e → Reached s (at + 4 + len) e
+    leads-on more reads =
+        let w = whole-here s at (r .whole) in
         let q = turn-passes s at d kind (at + 4) len clear more in
+        let grown = grown-turn s at d kind (at + 4) len _ _ w q in
         record {
-          valid = subst Valid reads (valid-turn s at d (at + 4) len kind q read-valid);
+          left = c .left - 1;
           comes =
-              comes-moved
-              (record {
-                before = extended d kind at (part s (at + 4) len);
+              record {
+                before = extended d kind at body;
                 has-read = reads;
-                goes = c .comes .goes ∙ parse-next s at d _ turns-left (whole-here s at (r .whole)) q;
-              })
-              (omega arith) refl;
+                goes = c .comes .goes ∙ parse-next s at d _ turns-left w q;
+              };
+          counted = omega (arith, turns-left, c .counted, grown .one-more);
+          sound = sound-turn s at d kind (at + 4) len _ _ w q (c .sound);
         }
 
     -- behind a right end: bytes refuse, and without them the sheet is given
@@ -99,66 +99,92 @@ module _ {s : List ℕ} {at : ℕ} {m : Model} (c : Reached s at m) where
           (ap (turnOf s at d) (whole-here s at (r .whole))
           ∙ turn-behind s at d kind (at + 4) len clear k (omega (arith, no-body)) ∙ ap (refused 3) no-body)
 
-      pub end-given : length s ≤ at + 4 → parse s ≡ given d
+      pub end-given : length s ≤ at + 4 → parse s ≡ given (finished d)
       end-given h =
           c .comes .goes
           ∙ parse-ended s at d _ turns-left (whole-here s at (r .whole))
           (turn-ends s at d kind (at + 4) len clear k (omega arith))
 
+  -- what reading makes of a machine, a move and an amendment
+  machine-read : Known s at → Kind s at 1
+      → extended d kind at body .draft ≡ draftMachine x (byte s (at + 4)) (byte s (at + 5))
+  machine-read known k =
+      let b = machine-bytes s at known k in
+      rw (k, reads-machine d at body, c .comes .has-read, b .0, b .1)
+
+  move-read : Kind s at 2 → extended d kind at body .draft ≡ draftMove x (written s at)
+  move-read k = rw (k, reads-move d at body, c .comes .has-read)
+
+  amendment-read : Known s at → {a : Amendment} {after : List Move} → Amending s at a → Acts a (x .standing) after
+      → extended d kind at body .draft ≡ draftAmended x after
+  amendment-read known {a} h acts =
+      let reads = reads-amendment d at body kind (amending-kind s at h) in
+      let stands = acts-amend (x .standing) a acts (reached-valid .standing .moves-distinct) in
+      rw (reads, c .comes .has-read, amending-reads s at known h, stands)
+
 module _ (s : List ℕ) where
-  machine-read : (at : ℕ) (d : Parsed) {m : Model} → d .model ≡ m → Kind s at 1 → word s at ≡ 2
-      → extended d (word s (at + 2)) at (part s (at + 4) (word s at)) .model
-      ≡ withMachine m (byte s (at + 4)) (byte s (at + 5))
-  unfolding extended
-  machine-read at d e k two = rw (k, e, machine-bytes s at two .0, machine-bytes s at two .1)
+  reached-first : Reached s 0 emptyDraft
+  unfolding parse
+  reached-first =
+      record {
+        left = 347;
+        comes = record { before = outset; has-read = refl; goes = refl };
+        counted = omega arith;
+        sound = sound-start s;
+      }
 
-  move-read : (at : ℕ) (d : Parsed) {m : Model} → d .model ≡ m → Kind s at 2
-      → extended d (word s (at + 2)) at (part s (at + 4) (word s at)) .model ≡ withMove m (written s at)
-  unfolding extended
-  move-read at d e k = rw (k, e)
-
-  pub front-reached : {at : ℕ} {m : Model} → Front s at m → Reached s at m
-  front-reached nothing = record { valid = valid-empty; comes = comes-first s }
-  front-reached (machine {at} f r k) =
+  pub front-reached : {at : ℕ} {x : Draft} → Front s at x → Reached s at x
+  front-reached nothing = reached-first
+  front-reached (machine f r k) =
       let c = front-reached f in
-      leads-on c r (λ e. differ k e refl) (machine-counted _ _ _)
-      (machine-read at (c .comes .before) (c .comes .has-read) k (two-bytes s at (r .known) k))
-  front-reached (move {at} f r k) =
+      leads-on c r (λ e. omega arith) (machine-read c (r .known) k)
+  front-reached (move f r k) =
       let c = front-reached f in
-      leads-on c r (λ e. differ k e refl) (move-counted _ _) (move-read at (c .comes .before) (c .comes .has-read) k)
+      leads-on c r (λ e. omega arith) (move-read c k)
+  front-reached (amendment {at} a f r h acts) =
+      let c = front-reached f in
+      leads-on c r (λ e. omega (arith, amending-late s at h)) (amendment-read c (r .known) h acts)
 
   module _ {n p : ℕ} (q : parse s ≡ refused n p) where
     refused-here : {k i : ℕ} → parse s ≡ refused k i → (k ≡ n) × (i ≡ p)
     refused-here e = (cc, cc)
 
-    abbrev Away : ℕ → ℕ → Model → Type 0
-    Away fuel at m = Front s at m → 283 ≤ fuel + records m → TurnedAway s n p
+    -- by how far the file goes on behind a place: each record takes some of it
+    abbrev Away : ℕ → ℕ → Draft → Type 0
+    Away more at x = Front s at x → length s < more + at → TurnedAway s n p
 
-    away-right : (fuel at : ℕ) (m : Model) → ((next : ℕ) (e : Model) → Away fuel next e) → Known s at
-        → RecordRight s at m → Away (suc fuel) at m
-    away-right fuel at m later (machine k e) r f h = later _ _ (machine f r k) (rw machine-counted (omega arith))
-    away-right fuel at m later (move k j l e) r f h = later _ _ (move f r k) (rw move-counted (omega arith))
-    away-right fuel at m later (end k e) r f h =
-        by-cases (ltb (at + 4) (length s))
-        (λ t.
-        let x = refused-here (end-refuses (front-reached f) r k (ltb-true _ _ t)) in
-        behind-end at m f r k (sym (x .0)) (sym (x .1)) (omega (arith, ltb-true (at + 4) (length s) t, x .1)))
-        (λ t. absurd (given-not-refused (sym (end-given (front-reached f) r k (ltb-false _ _ t)) ∙ q)))
+    module _ (more at : ℕ) (x : Draft) (later : (next : ℕ) (e : Draft) → Away more next e) (f : Front s at x)
+        (r : RecordRight s at x) (h : length s < suc more + at) where
+      amended : {a : Amendment} → Amending s at a → TurnedAway s n p
+      amended {a} k = later _ _ (amendment a f r k (r .amendable .acts a k .1)) (omega arith)
 
-    away : (fuel at : ℕ) (m : Model) → Away fuel at m
-    away zero at m f h =
-        absurd (let c = front-reached f in let z : ⊥ = omega (arith, c .valid .few-machines, c .valid .few-moves) in z)
-    away (suc fuel) at m f h =
+      away-right : Known s at → TurnedAway s n p
+      away-right (machine k e) = later _ _ (machine f r k) (omega arith)
+      away-right (bodied (inl k) j l e) = later _ _ (move f r k) (omega arith)
+      away-right (bodied (inr k) j l e) = amended (replacement k)
+      away-right (withdrawal k e) = amended (withdrawal k)
+      away-right (end k e) =
+          let c = front-reached f in
+          by-cases (ltb (at + 4) (length s))
+          (λ t.
+          let i = refused-here (end-refuses c r k (ltb-true _ _ t)) in
+          behind-end at x f r k (sym (i .0)) (sym (i .1)) (omega (arith, ltb-true (at + 4) (length s) t, i .1)))
+          (λ t. absurd (given-not-refused (sym (end-given c r k (ltb-false _ _ t)) ∙ q)))
+
+    away : (more at : ℕ) (x : Draft) → Away more at x
+    away zero at x f h = absurd (let z : ⊥ = omega (arith, front-reached f .sound .inside) in z)
+    away (suc more) at x f h =
+        let c = front-reached f in
         ⊎-elim
         (λ w.
-        let x = refused-here (faulty-refuses (front-reached f) (w .1)) in
-        rw (← x .0, ← x .1) (by-record m f (w .1)))
-        (λ r. away-right fuel at m (λ next e. away fuel next e) (r .known) r f h)
-        (judged s at m (front-reached f .valid))
+        let i = refused-here (faulty-refuses c (w .1)) in
+        rw (← i .0, ← i .1) (by-record x f (w .1)))
+        (λ r. away-right more at x (λ next e. away more next e) f r h (r .known))
+        (judged s at x (reached-valid c .sent))
 
   turned-away : {n p : ℕ} → TurnedAway s n p → parse s ≡ refused n p
-  turned-away (by-record m f w) = faulty-refuses (front-reached f) w
-  turned-away (behind-end at m f r k a b h) = end-refuses (front-reached f) r k (omega arith) ∙ rw (a, b)
+  turned-away (by-record x f w) = faulty-refuses (front-reached f) w
+  turned-away (behind-end at x f r k a b h) = end-refuses (front-reached f) r k (omega arith) ∙ rw (a, b)
 
 pub refused-exactly : RefusedExactly
-refused-exactly s n p = (λ q. away s q 283 0 _ nothing (omega arith), turned-away s)
+refused-exactly s n p = (λ q. away s q (length s + 1) 0 _ nothing (omega arith), turned-away s)

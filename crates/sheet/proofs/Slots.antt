@@ -2,20 +2,24 @@
 -- Assumes nothing.
 use Prim.Native.Nat.{ℕ, _+_, _-_, _*_, _%_, _≤_, _<_}
 use mathlib.Core.Path.{_≡_, refl, sym, ap, subst, _∙_}
-use mathlib.Core.Bool.{Bool, true, false}
-use mathlib.Core.List.{List, [], _∷_, _++_, List·Memᴰ·head as head, List·Memᴰ·tail as tail}
-use mathlib.Core.List.{Memᴰ·append-left, Memᴰ·append-right}
+use mathlib.Core.Bool.{Bool, true, false, not}
+use mathlib.Core.List.{List, [], _∷_, _++_, List·Memᴰ, List·Memᴰ·head as head, List·Memᴰ·tail as tail}
 use native.Mathlib.Omega.{arith}
+use mir.Val.{Fits}
+use mir.Syntax.{w8}
 use borrow.Author.Tests.{eqb-true, eqb-false, ltb-true, ltb-false, lt-ltb, le-ltb, eq-eqb, ne-eqb}
 use lib.Dec.{eqb, ltb}
-use lib.ListN.{length, getD, set, replicate, length-set}
-use lib.Seq.{getD-set-same, getD-set-other}
+use lib.ListN.{length, getD, set, replicate, length-set, List·getD-append}
+use lib.Seq.{getD-set-same, getD-set-other, getD-at}
+use Rattle.common.specs.Lists.{any}
 use Rattle.common.proofs.Bools.{by-cases, true-false}
 use Rattle.common.proofs.Lists.{any-intro, any-fails, covers-length}
-use Rattle.common.proofs.Members.{mem-index}
+use Rattle.common.proofs.Members.{mem-index, mem-getD}
 use Rattle.common.proofs.Pad.{getD-zeros}
 use Rattle.common.proofs.Snoc.{length-snoc, snoc-each}
-use Rattle.sheet.specs.Kept.Sent.{slotOf, behind, keyAt, Reached, Stands, Sent, Sought, Added}
+use Rattle.sheet.specs.Record.{byte}
+use Rattle.sheet.specs.Model.{Move, moveOf}
+use Rattle.sheet.specs.Kept.Sent.{keyOf, slotOf, behind, keyAt, Reached, Stands, Owned, Sent, Sought, Added}
 
 -- a search has come to a slot: it has passed by taken ones, none of which holds the key
 pub record Seeking (pairs commands : List ℕ) (key at : ℕ) : Type 0 where
@@ -28,6 +32,11 @@ pub record Seeking (pairs commands : List ℕ) (key at : ℕ) : Type 0 where
 -- how many slots are left for it
 unfoldable pub slotsLeft : ℕ → ℕ → ℕ
 slotsLeft key at = 511 - (at + 512 - slotOf key) % 512
+
+-- the key in a slot is the key of a move
+pub owned-mem : {keys pairs commands owners : List ℕ} {slot : ℕ} → Owned keys pairs commands owners slot
+    → List·Memᴰ (keyAt pairs commands slot) keys
+owned-mem o = rw (← o .key) (mem-getD _ _ 0 (o .below))
 
 pub own-slot : (key : ℕ) → slotOf key < 512
 unfolding slotOf
@@ -48,7 +57,7 @@ pub seek-inside : {pairs commands : List ℕ} {key at : ℕ} → Seeking pairs c
 unfolding behind
 seek-inside s = omega (arith, s .place)
 
-module _ {keys pairs commands : List ℕ} (h : Sent keys pairs commands) (key : ℕ) {at : ℕ}
+module _ {keys pairs commands owners : List ℕ} (h : Sent keys pairs commands owners) (key : ℕ) {at : ℕ}
     (s : Seeking pairs commands key at) where
   pub seek-in-pairs : at < length pairs
   seek-in-pairs = omega (arith, seek-inside s, h .pairs-long)
@@ -102,14 +111,16 @@ module _ {keys pairs commands : List ℕ} (h : Sent keys pairs commands) (key : 
           }
 
     -- the key is found
-    pub seek-found : {b : Bool} → b ≡ eqb (keyAt pairs commands at) key → b ≡ true → Sought keys commands key at
+    pub seek-found : {b : Bool} → b ≡ eqb (keyAt pairs commands at) key → b ≡ true → Sought keys pairs commands key at
     seek-found e y =
         let same = eqb-true (keyAt pairs commands at) key (sym e ∙ y) in
         record {
           inside = seek-inside s;
           reached = reached;
           tells =
-              any-intro (eqb key) (h .held at t) (eq-eqb key _ (sym same)) ∙ sym (lt-ltb 0 (getD commands at 0) t);
+              any-intro (eqb key) (owned-mem (h .held at t)) (eq-eqb key _ (sym same))
+              ∙ sym (lt-ltb 0 (getD commands at 0) t);
+          holds = λ _. same;
         }
 
   -- a slot is free, so the key is not there
@@ -132,7 +143,7 @@ module _ {keys pairs commands : List ℕ} (h : Sent keys pairs commands) (key : 
         let t : 0 < getD commands at 0 = rw (← one) (p .taken) in
         omega arith))
 
-    pub seek-free : Sought keys commands key at
+    pub seek-free : Sought keys pairs commands key at
     seek-free =
         record {
           inside = seek-inside s;
@@ -142,15 +153,17 @@ module _ {keys pairs commands : List ℕ} (h : Sent keys pairs commands) (key : 
               let i = mem-index 0 m in
               ne-eqb key x (λ e. not-there (i .0) (i .1) (i .2 ∙ sym e)))
               ∙ sym (le-ltb 0 (getD commands at 0) (omega arith));
+          holds = λ t. let no : ⊥ = omega arith in absurd no;
         }
 
 -- no key yet
-pub sent-nothing : Sent [] (replicate 512 0) (replicate 512 0)
+pub sent-nothing : Sent [] (replicate 512 0) (replicate 512 0) (replicate 512 0)
 sent-nothing =
     record {
       few = omega arith;
       pairs-long = refl;
       commands-long = refl;
+      owners-long = refl;
       held = λ k t. let no : ⊥ = omega (arith, getD-zeros 512 k) in absurd no;
       stands = λ j l. let no : ⊥ = omega arith in absurd no;
       places = [];
@@ -159,9 +172,9 @@ sent-nothing =
     }
 
 -- one more key, in a free slot
-module _ {keys pairs commands : List ℕ} (h : Sent keys pairs commands) (pair command : ℕ) {at : ℕ}
-    (s : Sought keys commands (256 * pair + command) at) (free : getD commands at 0 ≡ 0) (given : 0 < command)
-    (room : length keys < 250) where
+module _ {keys pairs commands owners : List ℕ} (h : Sent keys pairs commands owners) (pair command : ℕ) {at number : ℕ}
+    (s : Sought keys pairs commands (256 * pair + command) at) (free : getD commands at 0 ≡ 0) (given : 0 < command)
+    (last : length keys ≡ number) (room : number < 250) where
   abbrev key : ℕ
   key = 256 * pair + command
 
@@ -170,6 +183,9 @@ module _ {keys pairs commands : List ℕ} (h : Sent keys pairs commands) (pair c
 
   abbrev commands' : List ℕ
   commands' = set commands at command
+
+  abbrev owners' : List ℕ
+  owners' = set owners at number
 
   other-stays : (k : ℕ) → (k ≡ at → ⊥) → getD commands' k 0 ≡ getD commands k 0
   other-stays k o = getD-set-other commands at k command 0 o
@@ -208,18 +224,31 @@ module _ {keys pairs commands : List ℕ} (h : Sent keys pairs commands) (pair c
         there = other-key (p .slot) o ∙ p .there;
       }
 
-  sent-more : Sent (keys ++ (key ∷ [])) pairs' commands'
+  owned-new : Owned (keys ++ (key ∷ [])) pairs' commands' owners' at
+  owned-new =
+      let is : getD owners' at 0 ≡ number = getD-set-same owners at number 0 (omega (arith, s .inside, h .owners-long)) in
+      record { below = omega (arith, length-snoc keys key); key = rw is (getD-at keys key [] 0 number last ∙ sym new-key) }
+
+  owned-stays : {k : ℕ} → (k ≡ at → ⊥) → Owned keys pairs commands owners k
+      → Owned (keys ++ (key ∷ [])) pairs' commands' owners' k
+  owned-stays {k} o w =
+      let is : getD owners' k 0 ≡ getD owners k 0 = getD-set-other owners at k number 0 o in
+      record {
+        below = omega (arith, length-snoc keys key, w .below);
+        key = rw is (List·getD-append keys (key ∷ []) 0 _ (w .below) ∙ w .key ∙ sym (other-key k o));
+      }
+
+  sent-more : Sent (keys ++ (key ∷ [])) pairs' commands' owners'
   sent-more =
       record {
         few = omega (arith, length-snoc keys key);
         pairs-long = length-set pairs at pair ∙ h .pairs-long;
         commands-long = length-set commands at command ∙ h .commands-long;
+        owners-long = length-set owners at number ∙ h .owners-long;
         held = λ k t.
-            by-cases (eqb k at)
-            (λ y. rw (eqb-true k at y, new-key) (Memᴰ·append-right keys (head refl)))
-            (λ n.
+            by-cases (eqb k at) (λ y. rw (eqb-true k at y) owned-new) (λ n.
             let o = eqb-false k at n in
-            rw (other-key k o) (Memᴰ·append-left (key ∷ []) (h .held k (rw (other-stays k o) at t))));
+            owned-stays o (h .held k (rw (other-stays k o) at t)));
         stands =
             snoc-each keys key 0 (λ j x. Stands pairs' commands' x) (λ j l. stands-stays (h .stands j l))
             (record { slot = at; reached = reached-stays (s .reached); taken = rw new-command given; there = new-key });
@@ -230,20 +259,56 @@ module _ {keys pairs commands : List ℕ} (h : Sent keys pairs commands) (pair c
             tail (h .listed k (rw (other-stays k (eqb-false k at n)) at t)));
       }
 
--- what adding a key answers, by the slot where the search for it ends
-pub added-not : {keys commands : List ℕ} {k key at : ℕ} (pairs' commands' : List ℕ) → k ≡ key
-    → Sought keys commands k at → 0 < getD commands at 0 → Added keys key false pairs' commands'
-added-not {commands = commands} {at = at} pairs' commands' e s t =
-    record { earlier = rw (← e) (s .tells ∙ lt-ltb 0 (getD commands at 0) t); sent = λ y. absurd (true-false y refl) }
+-- where a search ends is a slot of the table
+module _ {keys pairs commands owners : List ℕ} {key at : ℕ} (h : Sent keys pairs commands owners)
+    (s : Sought keys pairs commands key at) where
+  pub sought-in-pairs : at < length pairs
+  sought-in-pairs = omega (arith, s .inside, h .pairs-long)
 
-pub added-new : {keys pairs commands : List ℕ} (pair command : ℕ) {key at : ℕ} → 256 * pair + command ≡ key
-    → Sent keys pairs commands → Sought keys commands (256 * pair + command) at → getD commands at 0 ≡ 0 → 0 < command
-    → length keys < 250 → Added keys key true (set pairs at pair) (set commands at command)
-added-new {commands = commands} pair command {at = at} e h s free given room =
+  pub sought-in-commands : at < length commands
+  sought-in-commands = omega (arith, s .inside, h .commands-long)
+
+  pub sought-in-owners : at < length owners
+  sought-in-owners = omega (arith, s .inside, h .owners-long)
+
+-- what adding a key answers, by the slot where the search for it ends
+module _ {keys pairs commands : List ℕ} {k key at : ℕ} (e : k ≡ key) (s : Sought keys pairs commands k at) where
+  -- whether a move has the key
+  pub seek-tells : any (eqb key) keys ≡ ltb 0 (getD commands at 0)
+  seek-tells = rw (← e) (s .tells)
+
+  pub seek-taken : not (eqb (getD commands at 0) 0) ≡ any (eqb key) keys
+  seek-taken =
+      by-cases (eqb (getD commands at 0) 0)
+      (λ y. rw (y, seek-tells) (sym (le-ltb 0 (getD commands at 0) (omega (arith, eqb-true (getD commands at 0) 0 y)))))
+      (λ n.
+      let o = eqb-false (getD commands at 0) 0 n in
+      rw (n, seek-tells) (sym (lt-ltb 0 (getD commands at 0) (omega arith))))
+
+  pub added-not : (pairs' commands' owners' : List ℕ) → (getD commands at 0 ≡ 0 → ⊥)
+      → Added keys key false pairs' commands' owners'
+  added-not pairs' commands' owners' t =
+      record {
+        earlier = seek-tells ∙ lt-ltb 0 (getD commands at 0) (omega arith);
+        sent = λ y. absurd (true-false y refl);
+      }
+
+pub added-new : {keys pairs commands owners : List ℕ} (pair command : ℕ) {key at number : ℕ} → 256 * pair + command ≡ key
+    → Sent keys pairs commands owners → Sought keys pairs commands (256 * pair + command) at → getD commands at 0 ≡ 0
+    → (command ≡ 0 → ⊥) → length keys ≡ number → number < 250
+    → Added keys key true (set pairs at pair) (set commands at command) (set owners at number)
+added-new {commands = commands} pair command {at = at} e h s free given last room =
     record {
-      earlier = rw (← e) (s .tells ∙ le-ltb 0 (getD commands at 0) (omega arith));
-      sent = λ y. rw (← e) (sent-more h pair command s free given room);
+      earlier = seek-tells e s ∙ le-ltb 0 (getD commands at 0) (omega arith);
+      sent = λ y. rw (← e) (sent-more h pair command s free (omega arith) last room);
     }
+
+-- the key that a move's body writes
+pub body-key : (body : List ℕ) (pair : ℕ)
+    → ((v : Move) → v .machine ≡ byte body 0 → v .from ≡ byte body 1 → v .command < 256 → 256 * pair + v .command ≡ keyOf v)
+    → ((i : ℕ) → Fits w8 (byte body i)) → 256 * pair + byte body 3 ≡ keyOf (moveOf body)
+unfolding moveOf
+body-key body pair is bytes = is (moveOf body) refl refl (omega (arith, bytes 3))
 
 -- a slot holds a key where both bytes are the same
 module _ (pairs commands : List ℕ) (at pair command : ℕ) (small : getD commands at 0 < 256) (byte : command < 256) where

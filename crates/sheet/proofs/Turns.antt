@@ -20,18 +20,18 @@ use Rattle.sheet.specs.declared.record.Record.{Record}
 use Rattle.sheet.specs.declared.record.Record.the-variants.{Whole, Cut}
 use Rattle.sheet.specs.Record.{recordAt, part}
 use Rattle.sheet.specs.Faults.{faultsOf}
-use Rattle.sheet.specs.Parse.{Parsed, extended, Turn, more, ended, turnAt, turnOf, parseFrom}
+use Rattle.sheet.specs.Parse.{Progress, finished, extended, Turn, more, ended, turnAt, turnOf, parseFrom}
 
-module _ (s : List ℕ) (at : ℕ) (d : Parsed) where
+module _ (s : List ℕ) (at : ℕ) (d : Progress) where
   -- the turns, by what begins at the place
-  pub turn-next : (n : ℕ) {next : ℕ} {e : Parsed} → 0 < n → turnOf s at d (recordAt s at) ≡ given (more next e)
+  pub turn-next : (n : ℕ) {next : ℕ} {e : Progress} → 0 < n → turnOf s at d (recordAt s at) ≡ given (more next e)
       → parseFrom n s at d ≡ parseFrom (n - 1) s next e
   unfolding parseFrom
   turn-next zero h q = absurd (not-suc-le-zero h)
   turn-next (suc n) h q = rw sub-one (rw (q, parseFrom))
 
-  pub turn-ended : (n : ℕ) {e : Parsed} → 0 < n → turnOf s at d (recordAt s at) ≡ given (ended e)
-      → parseFrom n s at d ≡ given e
+  pub turn-ended : (n : ℕ) {e : Progress} → 0 < n → turnOf s at d (recordAt s at) ≡ given (ended e)
+      → parseFrom n s at d ≡ given (finished e)
   unfolding parseFrom
   turn-ended zero h q = absurd (not-suc-le-zero h)
   turn-ended (suc n) h q = rw (q, parseFrom)
@@ -47,27 +47,27 @@ module _ (s : List ℕ) (at : ℕ) (d : Parsed) where
 
   -- a whole record
   module _ (n : ℕ) {kind start len : ℕ} (h : 0 < n) (w : recordAt s at ≡ Whole kind start len) where
-    pub parse-next : {next : ℕ} {e : Parsed} → turnAt s at d kind start len ≡ given (more next e)
+    pub parse-next : {next : ℕ} {e : Progress} → turnAt s at d kind start len ≡ given (more next e)
         → parseFrom n s at d ≡ parseFrom (n - 1) s next e
     parse-next q = turn-next n h (ap (turnOf s at d) w ∙ q)
 
-    pub parse-ended : {e : Parsed} → turnAt s at d kind start len ≡ given (ended e) → parseFrom n s at d ≡ given e
+    pub parse-ended : {e : Progress} → turnAt s at d kind start len ≡ given (ended e) → parseFrom n s at d ≡ given (finished e)
     parse-ended q = turn-ended n h (ap (turnOf s at d) w ∙ q)
 
 -- what is given comes of a whole record
-pub record WholeTurn (s : List ℕ) (at : ℕ) (d : Parsed) (r : Record) (t : Reply Turn) : Type 0 where
+pub record WholeTurn (s : List ℕ) (at : ℕ) (d : Progress) (r : Record) (t : Reply Turn) : Type 0 where
   pub kind : ℕ
   pub start : ℕ
   pub len : ℕ
   pub whole : r ≡ Whole kind start len
   pub turn : turnAt s at d kind start len ≡ t
 
-pub turn-whole : (s : List ℕ) (at : ℕ) (d : Parsed) (r : Record) {t : Turn} → turnOf s at d r ≡ given t
+pub turn-whole : (s : List ℕ) (at : ℕ) (d : Progress) (r : Record) {t : Turn} → turnOf s at d r ≡ given t
     → WholeTurn s at d r (given t)
 turn-whole s at d (Whole kind start len) q = record { kind = kind; start = start; len = len; whole = refl; turn = q }
 turn-whole s at d Cut q = absurd (given-not-refused (sym q))
 
-pub more-not-ended : {next : ℕ} {d e : Parsed} → given (more next d) ≡ given (ended e) → ⊥
+pub more-not-ended : {next : ℕ} {d e : Progress} → given (more next d) ≡ given (ended e) → ⊥
 more-not-ended q = let z : _≡_ {A = ℕ} 0 1 = cc in omega arith
 
 -- 3, where the end record ends
@@ -75,23 +75,23 @@ abbrev pub bytesBehind : List ℕ → ℕ → List Fault
 bytesBehind s end = fault 3 end (ltb end (length s)) ∷ []
 
 -- a turn that goes on, ends or refuses
-module _ (s : List ℕ) (at : ℕ) (d : Parsed) (kind start len : ℕ) where
+module _ (s : List ℕ) (at : ℕ) (d : Progress) (kind start len : ℕ) where
   abbrev faults : List Fault
-  faults = faultsOf (d .model) at kind (part s start len)
+  faults = faultsOf (d .draft) at kind (part s start len)
 
-  pub record GoesOn (next : ℕ) (e : Parsed) : Type 0 where
+  pub record GoesOn (next : ℕ) (e : Progress) : Type 0 where
     pub clear : Clear faults
     pub no-end : eqb kind 3 ≡ false
     pub goes-behind : start + len ≡ next
     pub reads : extended d kind at (part s start len) ≡ e
 
-  pub record Ends (e : Parsed) : Type 0 where
+  pub record Ends (e : Progress) : Type 0 where
     pub clear : Clear faults
     pub is-end : eqb kind 3 ≡ true
     pub nothing-behind : length s ≤ start + len
     pub keeps : d ≡ e
 
-  pub goes-on : {next : ℕ} {e : Parsed} → turnAt s at d kind start len ≡ given (more next e) → GoesOn next e
+  pub goes-on : {next : ℕ} {e : Progress} → turnAt s at d kind start len ≡ given (more next e) → GoesOn next e
   unfolding turnAt
   goes-on q =
       let g = given-stays faults _ q in
@@ -101,7 +101,7 @@ module _ (s : List ℕ) (at : ℕ) (d : Parsed) (kind start len : ℕ) where
       let m = rw f at g in
       record { clear = given-clear faults _ q; no-end = f; goes-behind = cc; reads = cc })
 
-  pub ends : {e : Parsed} → turnAt s at d kind start len ≡ given (ended e) → Ends e
+  pub ends : {e : Progress} → turnAt s at d kind start len ≡ given (ended e) → Ends e
   unfolding turnAt
   ends q =
       let g = given-stays faults _ q in

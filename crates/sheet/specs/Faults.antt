@@ -1,6 +1,6 @@
--- "Why a call is turned down", 2 and 4 to 8: the causes that one whole record can have, lowest number first.
+-- "Why a call is turned down", 2, 4 to 8 and 21: the causes that one whole record can have, lowest number first.
 use Prim.Native.Nat.{ℕ, _-_, _%_}
-use mathlib.Core.List.{List, [], _∷_}
+use mathlib.Core.List.{List, [], _∷_, _++_}
 use mathlib.Core.Bool.{Bool, true, cond, not, _&&_, _||_}
 use lib.ListN.{length, getD}
 use lib.Dec.{eqb, ltb, leb}
@@ -8,7 +8,8 @@ use Rattle.common.specs.Lists.{upTo, any}
 use Rattle.common.specs.Bits.{bit, beyond}
 use Rattle.common.specs.Reply.{Fault, fault}
 use Rattle.sheet.specs.Record.{byte}
-use Rattle.sheet.specs.Model.{Move, Model, machineCount, moveCount, guardAt, moveOf}
+use Rattle.sheet.specs.Model.{Move, Model, machineCount, moveCount, guardAt, moveOf, sameMove}
+use Rattle.sheet.specs.Amend.{Amendment, named, amendmentOf, Draft}
 
 -- 2 for a move: its machine, modes and command, then 0 to 8 needs of two bytes
 unfoldable pub wrongMoveLength : ℕ → Bool
@@ -37,10 +38,6 @@ badGuard modes v n =
 unfoldable pub badGuards : List ℕ → Move → Bool
 badGuards modes v = any (badGuard modes v) (upTo (length (v .guards)))
 
--- machine, from mode and command as an earlier move
-unfoldable pub sameMove : Move → Move → Bool
-sameMove v w = eqb (v .machine) (w .machine) && eqb (v .from) (w .from) && eqb (v .command) (w .command)
-
 -- 8: no command, or an earlier move once more
 unfoldable pub badCommand : List Move → Move → Bool
 badCommand earlier v = eqb (v .command) 0 || any (sameMove v) earlier
@@ -68,10 +65,37 @@ endFaults m at body =
     ∷ fault 4 at (eqb (machineCount m) 0)
     ∷ []
 
--- kind 1 is a machine, 2 a move, 3 the end; another kind is unknown
-unfoldable pub faultsOf : Model → ℕ → ℕ → List ℕ → List Fault
-faultsOf m at kind body =
-    cond (eqb kind 1) (machineFaults m at body)
-    (cond (eqb kind 2) (moveFaults m at body)
-    (cond (eqb kind 3) (endFaults m at body)
-    (fault 2 at true ∷ [])))
+-- 21: no standing move that the amendment names, or a 65th amendment
+unfoldable pub unamendable : Draft → Amendment → Bool
+unamendable x a = not (any (sameMove (named a)) (x .standing)) || leb 64 (x .amended)
+
+-- an amendment that replaces a move, judged as a move but for where it stands and for what was sent before
+unfoldable pub replaceFaults : Draft → ℕ → List ℕ → List Fault
+replaceFaults x at body =
+    fault 2 at (wrongMoveLength (length body))
+    ∷ fault 6 at (badMove (x .sent .modes) (x .sent .live) (moveOf body))
+    ∷ fault 7 at (badGuards (x .sent .modes) (moveOf body))
+    ∷ fault 8 at (eqb (moveOf body .command) 0)
+    ∷ fault 21 at (unamendable x (amendmentOf 4 body))
+    ∷ []
+
+-- and one that withdraws a move: machine, from mode and command
+unfoldable pub withdrawFaults : Draft → ℕ → List ℕ → List Fault
+withdrawFaults x at body =
+    fault 2 at (not (eqb (length body) 3))
+    ∷ fault 21 at (unamendable x (amendmentOf 5 body))
+    ∷ []
+
+-- 21 for a move behind an amendment
+unfoldable pub lateFaults : Draft → ℕ → List Fault
+lateFaults x at = fault 21 at (ltb 0 (x .amended)) ∷ []
+
+-- kind 1 is a machine, 2 a move, 3 the end, 4 and 5 are amendments; another kind is unknown
+unfoldable pub faultsOf : Draft → ℕ → ℕ → List ℕ → List Fault
+faultsOf x at kind body =
+    cond (eqb kind 1) (machineFaults (x .sent) at body)
+    (cond (eqb kind 2) (moveFaults (x .sent) at body ++ lateFaults x at)
+    (cond (eqb kind 3) (endFaults (x .sent) at body)
+    (cond (eqb kind 4) (replaceFaults x at body)
+    (cond (eqb kind 5) (withdrawFaults x at body)
+    (fault 2 at true ∷ [])))))

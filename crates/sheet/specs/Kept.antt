@@ -1,4 +1,5 @@
 pub mod Held
 pub mod Indexed
+pub mod Scanned
 pub mod Sent
 pub mod Written

@@ -1,3 +1,4 @@
+pub mod Amend
 pub mod Faults
 pub mod Faulty
 pub mod Index

@@ -1,7 +1,8 @@
 -- What a sheet says: its machines, its moves and what each move needs ("The sheet").
 use Prim.Native.Nat.{ℕ, _+_, _-_, _*_, _/_}
 use mathlib.Core.List.{List, [], _∷_, map, _++_}
-use mathlib.Core.Bool.{Bool}
+use mathlib.Core.Bool.{Bool, _&&_}
+use lib.Dec.{eqb}
 use lib.ListN.{length, getD}
 use Rattle.common.specs.Lists.{upTo}
 use Rattle.common.specs.Bits.{bit}
@@ -68,9 +69,17 @@ moveOf body =
       guards = map (λ n. guard (byte body (4 + 2 * n)) (byte body (5 + 2 * n))) (upTo ((length body - 4) / 2));
     }
 
+-- whether two moves have the same machine, from mode and command
+unfoldable pub sameMove : Move → Move → Bool
+sameMove v w = eqb (v .machine) (w .machine) && eqb (v .from) (w .from) && eqb (v .command) (w .command)
+
 unfoldable pub withMachine : Model → ℕ → ℕ → Model
 withMachine m modes live =
     record { modes = m .modes ++ (modes ∷ []); live = m .live ++ (live ∷ []); moves = m .moves }
 
 unfoldable pub withMove : Model → Move → Model
 withMove m v = record { modes = m .modes; live = m .live; moves = m .moves ++ (v ∷ []) }
+
+-- the same machines with other moves
+abbrev pub withMoves : Model → List Move → Model
+withMoves m moves = record { modes = m .modes; live = m .live; moves = moves }

@@ -27,6 +27,7 @@ use Rattle.sheet.specs.declared.refusal.Cause.the-variants.{
   DeadEnd,
   NoSharedMode,
   NotAPicture,
+  Unamendable,
 }
 
 abbrev pub numberOf : Cause → ℕ
@@ -50,6 +51,7 @@ numberOf NoRoute = 17
 numberOf DeadEnd = 18
 numberOf NoSharedMode = 19
 numberOf NotAPicture = 20
+numberOf Unamendable = 21
 
 -- a test of lent bytes: they pass, or the refusal
 abbrev pub verdictSays : Verdict → Reply Unit

@@ -1,4 +1,4 @@
--- What a sheet that passes 1 to 8 guarantees. Upper layers rest on these facts and never on the parse itself.
+-- What a sheet that passes 1 to 8 and 21 guarantees. Upper layers rest on these facts and never on the parse itself.
 use Prim.Native.Nat.{ℕ, suc, _≤_, _<_}
 use mathlib.Core.Path.{_≡_}
 use mathlib.Core.Bool.{true, false}

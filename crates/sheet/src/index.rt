@@ -3,13 +3,16 @@ use crate::record::body;
 use crate::record::byte_at;
 use crate::record::wide;
 use crate::record::word_at;
+use crate::refusal::Cause;
 use crate::refusal::Verdict;
 ghost use mathlib.Core.Path.{_≡_};
 ghost use Prim.Native.Nat.{_+_, _-_, _*_, _<_};
 ghost use lib.ListN.{length, getD};
+ghost use Rattle.common.specs.Reply.{refused};
+ghost use Rattle.sheet.specs.Refusal.{numberOf};
 ghost use Rattle.sheet.specs.Record.{bodyAt};
 ghost use Rattle.sheet.specs.Parse.{nothing};
-ghost use Rattle.sheet.specs.Index.{indexOf, modesIn, liveIn, moveByte, guardCountIn};
+ghost use Rattle.sheet.specs.Index.{indexOf, readingOf, modesIn, liveIn, moveByte, guardCountIn};
 
 // The number of a machine.
 pub struct Machine(pub u8);
@@ -45,6 +48,18 @@ pub struct Sheet {
 pub struct Reading {
     pub verdict: Verdict,
     pub sheet: Sheet,
+}
+
+impl Reading {
+    // The reply to a faulty sheet.
+    pub fn refused(cause: Cause, place: usize) -> Self
+        ensures { λ r. ⌜ (readingOf r ≡ refused (numberOf cause) place) × (r .sheet ≡ indexOf nothing) ⌝ }
+    {
+        Reading {
+            verdict: Verdict::Refused(cause, place),
+            sheet: Sheet::empty(),
+        }
+    }
 }
 
 impl Sheet {

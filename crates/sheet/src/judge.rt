@@ -1,4 +1,5 @@
-// The causes 2 and 4 to 8 of one whole record, lowest number first; a command that an earlier move has (8) is found in `sent`.
+// The causes 2 and 4 to 8 of one whole record, lowest number first; a command that an earlier move has (8) is found in `sent`,
+// and what can't be amended (21) in `amending`.
 use crate::bits::has_beyond;
 use crate::bits::has_mode;
 use crate::index::Machine;
@@ -17,7 +18,7 @@ ghost use Rattle.sheet.specs.Record.{byte};
 ghost use Rattle.sheet.specs.Model.{Model, machineCount, moveOf};
 ghost use Rattle.sheet.specs.Faults.{wrongMoveLength, badMachine, machineFaults, endFaults};
 ghost use Rattle.sheet.specs.Kept.Held.{fine, judgedOf, topOf, deadMove, wrongGuard, wrongGuards};
-ghost use Rattle.sheet.specs.Kept.Held.{ownMoveFaults, ownFaults, Counted, Held};
+ghost use Rattle.sheet.specs.Kept.Held.{bodyFaults, ownMoveFaults, ownReplaceFaults, ownWithdrawFaults, ownFaults, Counted, Held};
 
 // What judging a record finds.
 pub enum Judged {
@@ -133,7 +134,7 @@ pub fn first_modes(n: u8) -> u8
 }
 
 // A machine record.
-fn judge_machine(body: &[u8], counts: Counts) -> Judged
+pub fn judge_machine(body: &[u8], counts: Counts) -> Judged
     ensures { λ r. ⌜ ((m : Model) (at : ℕ) → Counted m counts
         → judgedOf r at ≡ unless (machineFaults m at (now (body .entry))) fine) ⌝ }
 {
@@ -152,8 +153,26 @@ fn judge_machine(body: &[u8], counts: Counts) -> Judged
     Judged::Fine
 }
 
+// A move's body by the machines so far: 6, 7, and 8 for no command.
+fn judge_body(body: &[u8], counts: Counts, tops: &[u8], live: &[u8]) -> Judged
+    requires { ⌜ 4 ≤ length (now body) ⌝ }
+    ensures { λ r. ⌜ ((m : Model) (at : ℕ) → Held m counts (now (tops .entry)) (now (live .entry))
+        → judgedOf r at ≡ unless (bodyFaults m at (now (body .entry))) fine) ⌝ }
+{
+    if bad_move(body, live) {
+        return Judged::Faulty(Cause::BadMove);
+    }
+    if bad_guards(body, tops) {
+        return Judged::Faulty(Cause::BadGuard);
+    }
+    if body[3] == 0 {
+        return Judged::Faulty(Cause::BadCommand);
+    }
+    Judged::Fine
+}
+
 // A move record, by the machines so far; whether an earlier move has its command is not asked here.
-fn judge_move(body: &[u8], counts: Counts, tops: &[u8], live: &[u8]) -> Judged
+pub fn judge_move(body: &[u8], counts: Counts, tops: &[u8], live: &[u8]) -> Judged
     ensures { λ r. ⌜ ((m : Model) (at : ℕ) → Held m counts (now (tops .entry)) (now (live .entry))
         → judgedOf r at ≡ unless (ownMoveFaults m at (now (body .entry))) fine) ⌝ }
 {
@@ -178,8 +197,46 @@ fn judge_move(body: &[u8], counts: Counts, tops: &[u8], live: &[u8]) -> Judged
     Judged::Fine
 }
 
+// A move record behind an amendment. Not by `judge_move`, which is called once, so that the compiler lays it into the loop over moves.
+fn judge_late(body: &[u8], counts: Counts, tops: &[u8], live: &[u8]) -> Judged
+    ensures { λ r. ⌜ ((m : Model) (at : ℕ) → Held m counts (now (tops .entry)) (now (live .entry))
+        → judgedOf r at ≡ unless (ownMoveFaults m at (now (body .entry))) fine) ⌝ }
+{
+    if wrong_move_length(body.len()) {
+        return Judged::Faulty(Cause::WrongKind);
+    }
+    if counts.machines == 0 {
+        return Judged::Faulty(Cause::Misplaced);
+    }
+    if Sheet::MOVES <= counts.moves {
+        return Judged::Faulty(Cause::Misplaced);
+    }
+    judge_body(body, counts, tops, live)
+}
+
+// A record that replaces a move; whether such a move stands is not asked here.
+fn judge_replacement(body: &[u8], counts: Counts, tops: &[u8], live: &[u8]) -> Judged
+    ensures { λ r. ⌜ ((m : Model) (at : ℕ) → Held m counts (now (tops .entry)) (now (live .entry))
+        → judgedOf r at ≡ unless (ownReplaceFaults m at (now (body .entry))) fine) ⌝ }
+{
+    if wrong_move_length(body.len()) {
+        return Judged::Faulty(Cause::WrongKind);
+    }
+    judge_body(body, counts, tops, live)
+}
+
+// A record that withdraws a move: machine, from mode and command.
+fn judge_withdrawal(body: &[u8]) -> Judged
+    ensures { λ r. ⌜ ((at : ℕ) → judgedOf r at ≡ unless (ownWithdrawFaults at (now (body .entry))) fine) ⌝ }
+{
+    if body.len() != 3 {
+        return Judged::Faulty(Cause::WrongKind);
+    }
+    Judged::Fine
+}
+
 // An end record, after so many machines.
-fn judge_end(body: &[u8], machines: usize) -> Judged
+pub fn judge_end(body: &[u8], machines: usize) -> Judged
     ensures { λ r. ⌜ ((m : Model) (at : ℕ) → machineCount m ≡ machines
         → judgedOf r at ≡ unless (endFaults m at (now (body .entry))) fine) ⌝ }
 {
@@ -192,15 +249,17 @@ fn judge_end(body: &[u8], machines: usize) -> Judged
     Judged::Fine
 }
 
-// A whole record, by its kind and the machines so far; whether an earlier move has its command is not asked here.
+// A whole record behind moves, by its kind, the machines so far and the counts; the moves so far are not asked here.
 pub fn judge(kind: u16, body: &[u8], counts: Counts, tops: &[u8], live: &[u8]) -> Judged
     ensures { λ r. ⌜ ((m : Model) (at : ℕ) → Held m counts (now (tops .entry)) (now (live .entry))
         → judgedOf r at ≡ unless (ownFaults m at kind (now (body .entry))) fine) ⌝ }
 {
     match kind {
         1 => judge_machine(body, counts),
-        2 => judge_move(body, counts, tops, live),
+        2 => judge_late(body, counts, tops, live),
         3 => judge_end(body, counts.machines),
+        4 => judge_replacement(body, counts, tops, live),
+        5 => judge_withdrawal(body),
         _ => Judged::Faulty(Cause::WrongKind),
     }
 }

@@ -2,22 +2,23 @@
 ghost use Rattle.sheet.specs.Faulty.{RefusedExactly};
 ghost use Rattle.sheet.specs.Meaning.{AcceptedValid, AcceptedWhole, ValidAccepted, RefusedListed, IndexAnswers};
 
-// A sheet that passes 1 to 8 is valid, and has a machine.
+// A sheet that passes 1 to 8 and 21 is valid, and has a machine.
 pub fn accepted_is_valid()
     ensures { λ _. ⌜ AcceptedValid ⌝ }
 {}
 
-// A file of bytes that passes is exactly the sheet of its model, written out: nothing in it is passed over.
+// A file of bytes that passes is exactly machines, moves, amendments and the end, written out, and its model is what the
+// amendments make of the moves: nothing in it is passed over.
 pub fn accepted_is_whole()
     ensures { λ _. ⌜ AcceptedWhole ⌝ }
 {}
 
-// Nothing that is right is refused: the sheet of a valid model that has a machine passes, and is read as that model.
+// Nothing that is right is refused: every such file passes, and is read as that model.
 pub fn valid_is_accepted()
     ensures { λ _. ⌜ ValidAccepted ⌝ }
 {}
 
-// A refusal has one of the numbers 1 to 8, and a place in the file or just behind it.
+// A refusal has one of the numbers 1 to 8, or 21, and a place in the file or just behind it.
 pub fn refused_is_listed()
     ensures { λ _. ⌜ RefusedListed ⌝ }
 {}

@@ -1,6 +1,6 @@
 // Records of a file: body length and kind, two bytes each, and the body behind them. Kinds mean nothing here.
 ghost use mathlib.Core.Path.{_≡_};
-ghost use Prim.Native.Nat.{_<_};
+ghost use Prim.Native.Nat.{_+_, _*_, _<_};
 ghost use Rattle.sheet.specs.Record.{byte, word, recordAt, bodyAt};
 
 // What begins at a place of a file.
@@ -38,19 +38,28 @@ pub fn word_at(s: &[u8], i: usize) -> usize
     wide(s[i]) + 256 * wide(byte_at(s, i + 1))
 }
 
+// Two bytes as a number, the low one first.
+fn two_bytes(low: u8, high: u8) -> u16
+    ensures { λ r. ⌜ r ≡ low + 256 * high ⌝ }
+{
+    low as u16 + 256 * high as u16
+}
+
 // The record that begins at a place; called by the reader alone.
 pub fn read(s: &[u8], at: usize) -> Record
     ensures { λ r. ⌜ r ≡ recordAt (now (s .entry)) at ⌝ }
 {
-    if s.len() <= at {
+    if s.len() < 4 {
         return Record::Cut;
     }
-    if s.len() - at < 4 {
+    // The last place where a header can stand.
+    let last = s.len() - 4;
+    if last < at {
         return Record::Cut;
     }
-    let len = word_at(s, at);
-    let kind = word_at(s, at + 2) as u16;
-    if s.len() - at - 4 < len {
+    let len = two_bytes(s[at], s[at + 1]) as usize;
+    let kind = two_bytes(s[at + 2], s[at + 3]);
+    if last - at < len {
         return Record::Cut;
     }
     Record::Whole {

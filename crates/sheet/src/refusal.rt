@@ -3,7 +3,7 @@ ghost use mathlib.Core.Path.{_≡_};
 ghost use Rattle.sheet.specs.Refusal.{numberOf};
 
 pub enum Cause {
-    // 1 to 8: a sheet.
+    // 1 to 8: a sheet, and 21, below.
     CutShort,
     WrongKind,
     TrailingBytes,
@@ -28,6 +28,8 @@ pub enum Cause {
     NoSharedMode,
     // 20: reading a picture.
     NotAPicture,
+    // 21: a sheet's amendments.
+    Unamendable,
 }
 
 // What a test of lent bytes finds.
@@ -69,5 +71,6 @@ pub fn number(cause: Cause) -> u8
         Cause::DeadEnd => 18,
         Cause::NoSharedMode => 19,
         Cause::NotAPicture => 20,
+        Cause::Unamendable => 21,
     }
 }

@@ -1,30 +1,21 @@
 // Reading a sheet front to back.
+use crate::amending::read_tail;
 use crate::index::Reading;
 use crate::index::Sheet;
 use crate::judge::Counts;
 use crate::judge::Judged;
 use crate::judge::first_modes;
-use crate::judge::judge;
+use crate::judge::judge_end;
+use crate::judge::judge_machine;
+use crate::judge::judge_move;
 use crate::record::Record;
 use crate::refusal::Cause;
 use crate::refusal::Verdict;
 use crate::sent::SLOTS;
 use crate::sent::added;
 ghost use mathlib.Core.Path.{_≡_};
-ghost use Rattle.common.specs.Reply.{refused};
-ghost use Rattle.sheet.specs.Refusal.{numberOf};
-ghost use Rattle.sheet.specs.Parse.{nothing, parse};
-ghost use Rattle.sheet.specs.Index.{indexOf, readingOf, indexReply, sheetOf};
-
-// The reply to a faulty sheet.
-fn refusal(cause: Cause, place: usize) -> Reading
-    ensures { λ r. ⌜ (readingOf r ≡ refused (numberOf cause) place) × (r .sheet ≡ indexOf nothing) ⌝ }
-{
-    Reading {
-        verdict: Verdict::Refused(cause, place),
-        sheet: Sheet::empty(),
-    }
-}
+ghost use Rattle.sheet.specs.Parse.{parse};
+ghost use Rattle.sheet.specs.Index.{readingOf, indexReply, sheetOf};
 
 // The index of the sheet that a file is, or the refusal.
 pub fn read(s: &[u8]) -> Reading
@@ -36,26 +27,27 @@ pub fn read(s: &[u8]) -> Reading
     let mut lives = [0u8; Sheet::MACHINES];
     // All modes of a machine as bits; none for a byte that names no machine.
     let mut tops = [0u8; 256];
-    // The keys of the moves so far.
+    // The keys of the moves so far, and whose they are.
     let mut pairs = [0u8; SLOTS];
     let mut commands = [0u8; SLOTS];
+    let mut owners = [0u8; SLOTS];
     let mut at: usize = 0;
-    // Ends, since a machine or a move too many is faulty.
+    // Ends, since a machine or a move too many is faulty. What is neither of them nor the end begins the tail.
     loop {
         let Record::Whole { kind, start, len } = crate::reader::record_at(s, at) else {
-            return refusal(Cause::CutShort, at);
+            return Reading::refused(Cause::CutShort, at);
         };
         let end = start + len;
         let body = &s[start..end];
         let machines = sheet.machines;
         let moves = sheet.moves;
         let counts = Counts { machines, moves };
-        let j = judge(kind, body, counts, &tops[..], &lives[..]);
-        if let Judged::Faulty(cause) = j {
-            return refusal(cause, at);
-        }
         match kind {
             1 => {
+                let j = judge_machine(body, counts);
+                if let Judged::Faulty(cause) = j {
+                    return Reading::refused(cause, at);
+                }
                 sheet.modes[machines] = body[0];
                 lives[machines] = body[1];
                 sheet.machines = machines + 1;
@@ -63,21 +55,45 @@ pub fn read(s: &[u8]) -> Reading
                 at = end;
             }
             2 => {
-                if !added(&mut pairs[..], &mut commands[..], body) {
-                    return refusal(Cause::BadCommand, at);
+                let j = judge_move(body, counts, &tops[..], &lives[..]);
+                if let Judged::Faulty(cause) = j {
+                    return Reading::refused(cause, at);
+                }
+                if !added(
+                    &mut pairs[..],
+                    &mut commands[..],
+                    &mut owners[..],
+                    body,
+                    moves,
+                ) {
+                    return Reading::refused(Cause::BadCommand, at);
                 }
                 sheet.places[moves] = at as u16;
                 sheet.moves = moves + 1;
                 at = end;
             }
-            _ => {
+            3 => {
+                let j = judge_end(body, machines);
+                if let Judged::Faulty(cause) = j {
+                    return Reading::refused(cause, at);
+                }
                 if end < s.len() {
-                    return refusal(Cause::TrailingBytes, end);
+                    return Reading::refused(Cause::TrailingBytes, end);
                 }
                 sheet.live = lives;
                 let verdict = Verdict::Accepted;
                 return Reading { verdict, sheet };
             }
+            _ => return read_tail(
+                s,
+                at,
+                sheet,
+                lives,
+                &tops[..],
+                &pairs[..],
+                &commands[..],
+                &owners[..],
+            ),
         }
     }
 }

@@ -1,24 +1,25 @@
 // The commands of the moves so far. A move is told by its key of two bytes: machine and from mode, and the command. Keys stand in a
-// table of 512 slots, never half full; a slot without a command is free.
+// table of 512 slots, never half full, each beside the number of its move; a slot without a command is free.
 use crate::record::wide;
 ghost use mathlib.Core.Path.{_≡_};
 ghost use mathlib.Core.List.{List};
 ghost use Prim.Native.Nat.{ℕ, _+_, _*_, _≤_, _<_};
 ghost use lib.ListN.{length};
 ghost use lib.Dec.{eqb};
+ghost use Rattle.common.specs.Lists.{any};
 ghost use Rattle.sheet.specs.Record.{byte};
-ghost use Rattle.sheet.specs.Model.{moveOf};
+ghost use Rattle.sheet.specs.Model.{Move, moveOf};
 ghost use Rattle.sheet.specs.Kept.Sent.{keyOf, slotOf, keyAt, Sent, Sought, Added};
 
 // Slots of the table.
 pub const SLOTS: usize = 512;
 
-// A move's machine and from mode, the upper byte of its key.
-fn pair_of(body: &[u8]) -> u8
-    requires { ⌜ 4 ≤ length (now body) ⌝ }
-    ensures { λ r. ⌜ 256 * r + byte (now (body .entry)) 3 ≡ keyOf (moveOf (now (body .entry))) ⌝ }
+// The upper byte of a key: machine and from mode. Nothing of it is cut off where both are of some sheet.
+pub fn pair_of(machine: u8, from: u8) -> u8
+    ensures { λ r. ⌜ ((v : Move) → v .machine ≡ machine → v .from ≡ from → v .command < 256
+        → 256 * r + v .command ≡ keyOf v) ⌝ }
 {
-    ((8 * wide(body[0]) + wide(body[1])) % 256) as u8
+    ((8 * wide(machine) + wide(from)) % 256) as u8
 }
 
 // A key's own slot: neighbouring keys have slots far apart.
@@ -40,10 +41,10 @@ fn holds(pairs: &[u8], commands: &[u8], at: usize, pair: u8, command: u8) -> boo
 }
 
 // The slot that holds a key or, if none does, the free one where it would be put.
-fn find(pairs: &[u8], commands: &[u8], pair: u8, command: u8) -> usize
-    requires { ⌜ ((keys : List ℕ) × Sent keys (now pairs) (now commands)) ⌝ }
-    ensures { λ r. ⌜ ((keys : List ℕ) → Sent keys (now (pairs .entry)) (now (commands .entry))
-        → Sought keys (now (commands .entry)) (256 * pair + command) r) ⌝ }
+pub fn find(pairs: &[u8], commands: &[u8], pair: u8, command: u8) -> usize
+    requires { ⌜ ((keys : List ℕ) × (owners : List ℕ) × Sent keys (now pairs) (now commands) owners) ⌝ }
+    ensures { λ r. ⌜ ((keys owners : List ℕ) → Sent keys (now (pairs .entry)) (now (commands .entry)) owners
+        → Sought keys (now (pairs .entry)) (now (commands .entry)) (256 * pair + command) r) ⌝ }
 {
     let mut at = slot_of(pair, command);
     while commands[at] != 0 {
@@ -55,14 +56,20 @@ fn find(pairs: &[u8], commands: &[u8], pair: u8, command: u8) -> usize
     at
 }
 
-// Adds the key of a move with a command; false, and nothing is added, if an earlier move has it.
-pub fn added(pairs: &mut [u8], commands: &mut [u8], body: &[u8]) -> bool
-    requires { ⌜ ((keys : List ℕ) × Sent keys (now pairs) (now commands)) × (4 ≤ length (now body)) ⌝ }
-    ensures { λ r. ⌜ ((keys : List ℕ) → Sent keys (now (pairs .entry)) (now (commands .entry)) → length keys < 250
-        → (byte (now (body .entry)) 3 ≡ 0 → ⊥)
-        → Added keys (keyOf (moveOf (now (body .entry)))) r (now (pairs .exit)) (now (commands .exit))) ⌝ }
+// Adds the key of a move with a command, and its number; false, and nothing is added, if an earlier move has the key.
+pub fn added(
+    pairs: &mut [u8],
+    commands: &mut [u8],
+    owners: &mut [u8],
+    body: &[u8],
+    number: usize,
+) -> bool
+    requires { ⌜ ((keys : List ℕ) × Sent keys (now pairs) (now commands) (now owners)) × (4 ≤ length (now body)) × (number < 250) ⌝ }
+    ensures { λ r. ⌜ ((keys : List ℕ) → Sent keys (now (pairs .entry)) (now (commands .entry)) (now (owners .entry))
+        → length keys ≡ number → (byte (now (body .entry)) 3 ≡ 0 → ⊥)
+        → Added keys (keyOf (moveOf (now (body .entry)))) r (now (pairs .exit)) (now (commands .exit)) (now (owners .exit))) ⌝ }
 {
-    let pair = pair_of(body);
+    let pair = pair_of(body[0], body[1]);
     let command = body[3];
     let at = find(&pairs[..], &commands[..], pair, command);
     if commands[at] != 0 {
@@ -70,5 +77,17 @@ pub fn added(pairs: &mut [u8], commands: &mut [u8], body: &[u8]) -> bool
     }
     pairs[at] = pair;
     commands[at] = command;
+    owners[at] = number as u8;
     true
+}
+
+// Whether an earlier move has the key of a move.
+pub fn repeated(pairs: &[u8], commands: &[u8], body: &[u8]) -> bool
+    requires { ⌜ ((keys : List ℕ) × (owners : List ℕ) × Sent keys (now pairs) (now commands) owners) × (4 ≤ length (now body)) ⌝ }
+    ensures { λ r. ⌜ ((keys owners : List ℕ) → Sent keys (now (pairs .entry)) (now (commands .entry)) owners
+        → r ≡ any (eqb (keyOf (moveOf (now (body .entry))))) keys) ⌝ }
+{
+    let pair = pair_of(body[0], body[1]);
+    let command = body[3];
+    commands[find(pairs, commands, pair, command)] != 0
 }

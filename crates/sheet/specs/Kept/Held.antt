@@ -1,7 +1,7 @@
 -- What judging keeps of the records read so far, counts and arrays with zeros behind what there is, and how it judges by that.
 use Prim.Native.Nat.{ℕ, _-_, _^_, _≤_}
 use mathlib.Core.Path.{_≡_}
-use mathlib.Core.Bool.{Bool, false, not, cond, _&&_, _||_}
+use mathlib.Core.Bool.{Bool, true, false, not, cond, _&&_, _||_}
 use mathlib.Core.List.{List, [], _∷_, map}
 use lib.ListN.{length, getD}
 use lib.Dec.{eqb, ltb, leb}
@@ -12,8 +12,9 @@ use Rattle.sheet.specs.declared.judge.Counts.{Counts}
 use Rattle.sheet.specs.declared.judge.Judged.{Judged}
 use Rattle.sheet.specs.declared.judge.Judged.the-variants.{Fine, Faulty}
 use Rattle.sheet.specs.Refusal.{numberOf}
-use Rattle.sheet.specs.Model.{Move, Model, machineCount, moveCount, guardAt, moveOf}
-use Rattle.sheet.specs.Faults.{wrongMoveLength, badMove, badGuards, faultsOf}
+use Rattle.sheet.specs.Model.{Move, Model, machineCount, moveCount, guardAt, moveOf, sameMove}
+use Rattle.sheet.specs.Amend.{Draft, amendmentOf}
+use Rattle.sheet.specs.Faults.{wrongMoveLength, badMove, badGuards, machineFaults, endFaults, lateFaults, unamendable}
 
 -- nothing found
 abbrev pub fine : Reply Unit
@@ -45,19 +46,44 @@ wrongGuard tops v n =
 unfoldable pub wrongGuards : List ℕ → Move → Bool
 wrongGuards tops v = any (wrongGuard tops v) (upTo (length (v .guards)))
 
+-- the causes of a move's body that the machines tell, behind its length
+unfoldable pub bodyFaults : Model → ℕ → List ℕ → List Fault
+bodyFaults m at body =
+    fault 6 at (badMove (m .modes) (m .live) (moveOf body))
+    ∷ fault 7 at (badGuards (m .modes) (moveOf body))
+    ∷ fault 8 at (eqb (moveOf body .command) 0)
+    ∷ []
+
 -- the causes of a move but for a command that an earlier move has
 unfoldable pub ownMoveFaults : Model → ℕ → List ℕ → List Fault
 ownMoveFaults m at body =
     fault 2 at (wrongMoveLength (length body))
     ∷ fault 4 at (eqb (machineCount m) 0 || leb 250 (moveCount m))
-    ∷ fault 6 at (badMove (m .modes) (m .live) (moveOf body))
-    ∷ fault 7 at (badGuards (m .modes) (moveOf body))
-    ∷ fault 8 at (eqb (moveOf body .command) 0)
-    ∷ []
+    ∷ bodyFaults m at body
 
--- the causes of a record, that one aside
+-- and those of a replacement and a withdrawal but for what they amend
+unfoldable pub ownReplaceFaults : Model → ℕ → List ℕ → List Fault
+ownReplaceFaults m at body = fault 2 at (wrongMoveLength (length body)) ∷ bodyFaults m at body
+
+unfoldable pub ownWithdrawFaults : ℕ → List ℕ → List Fault
+ownWithdrawFaults at body = fault 2 at (not (eqb (length body) 3)) ∷ []
+
+-- the causes of a record that its own bytes, the machines and the counts tell
 unfoldable pub ownFaults : Model → ℕ → ℕ → List ℕ → List Fault
-ownFaults m at kind body = cond (eqb kind 2) (ownMoveFaults m at body) (faultsOf m at kind body)
+ownFaults m at kind body =
+    cond (eqb kind 1) (machineFaults m at body)
+    (cond (eqb kind 2) (ownMoveFaults m at body)
+    (cond (eqb kind 3) (endFaults m at body)
+    (cond (eqb kind 4) (ownReplaceFaults m at body)
+    (cond (eqb kind 5) (ownWithdrawFaults at body)
+    (fault 2 at true ∷ [])))))
+
+-- and those that the moves and amendments before it tell
+unfoldable pub laterFaults : Draft → ℕ → ℕ → List ℕ → List Fault
+laterFaults x at kind body =
+    cond (eqb kind 2) (fault 8 at (any (sameMove (moveOf body)) (x .sent .moves)) ∷ lateFaults x at)
+    (cond (eqb kind 4 || eqb kind 5) (fault 21 at (unamendable x (amendmentOf kind body)) ∷ [])
+    [])
 
 -- the counts of a model
 pub record Counted (m : Model) (counts : Counts) : Type 0 where

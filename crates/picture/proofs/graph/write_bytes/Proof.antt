@@ -2,7 +2,9 @@ use mathlib.Core.Path.{_∙_}
 use native.Mathlib.Omega.{arith}
 use lib.ListN.{length-set}
 use Rattle.decimal.proofs.Putting.{put-byte}
-use Rattle.picture.proofs.Fitting.{not-fitted, fitted-written, bytes-length, bytes-put}
+use Rattle.common.proofs.Output.{not-fitted}
+use Rattle.sheet.proofs.Pieces.{fitted-written}
+use Rattle.picture.proofs.Fitting.{bytes-length, bytes-put}
 use borrow.Author.Needs.{needs}
 use Rattle.picture.proofs.graph.write_bytes.Statement.{statement}
 use Rattle.picture.proofs.graph.write_bytes.Tie as tie

@@ -1,5 +1,7 @@
 use native.Mathlib.Omega.{arith}
-use Rattle.picture.proofs.Fitting.{not-fitted, fitted-written, text-length, text-put}
+use Rattle.common.proofs.Output.{not-fitted}
+use Rattle.sheet.proofs.Pieces.{fitted-written}
+use Rattle.picture.proofs.Fitting.{text-length, text-put}
 use borrow.Author.Needs.{needs}
 use Rattle.picture.proofs.graph.write_rows.Statement.{statement}
 use Rattle.picture.proofs.graph.write_rows.Tie as tie

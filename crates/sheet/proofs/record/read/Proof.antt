@@ -1,62 +1,73 @@
 use borrow.Author.Needs.{needs}
-use Rattle.common.proofs.Tests.{tests}
-use Rattle.sheet.specs.Record.{recordAt}
+use Rattle.sheet.proofs.Records.{no-header, header-past, body-cut, body-in}
 use Rattle.sheet.proofs.record.read.Statement.{statement}
 use Rattle.sheet.proofs.record.read.Tie as tie
 
 returns : tie.Need-returns
-unfolding recordAt
-returns c = search tests
+returns c = search no-header
 
-sub-if2 : tie.Need-sub-if2
-sub-if2 c = search needs
+sub-last : tie.Need-sub-last
+sub-last c = search needs
 
 returns-2 : tie.Need-returns-2
-unfolding recordAt
-returns-2 c = search tests
+returns-2 c = search header-past
 
-word-at-requires : tie.Need-word-at-requires
-word-at-requires c κs = search needs
+shared-slice-read-two-bytes : tie.Need-shared-slice-read-two-bytes
+shared-slice-read-two-bytes c = search needs
 
-add-word-at : tie.Need-add-word-at
-add-word-at c = search needs
+add-two-bytes : tie.Need-add-two-bytes
+add-two-bytes c = search needs
 
-word-at-requires-2 : tie.Need-word-at-requires-2
-word-at-requires-2 c κs = search needs
+shared-slice-read-two-bytes-2 : tie.Need-shared-slice-read-two-bytes-2
+shared-slice-read-two-bytes-2 c = search needs
 
-cast-kind : tie.Need-cast-kind
-cast-kind c = search needs
+two-bytes-requires : tie.Need-two-bytes-requires
+two-bytes-requires c κs = search needs
 
-sub-if3 : tie.Need-sub-if3
-sub-if3 c = search needs
+cast-len : tie.Need-cast-len
+cast-len c = search needs
 
-sub-if3-2 : tie.Need-sub-if3-2
-sub-if3-2 c = search needs
+add-two-bytes-2 : tie.Need-add-two-bytes-2
+add-two-bytes-2 c = search needs
+
+shared-slice-read-two-bytes-3 : tie.Need-shared-slice-read-two-bytes-3
+shared-slice-read-two-bytes-3 c = search needs
+
+add-two-bytes-3 : tie.Need-add-two-bytes-3
+add-two-bytes-3 c = search needs
+
+shared-slice-read-two-bytes-4 : tie.Need-shared-slice-read-two-bytes-4
+shared-slice-read-two-bytes-4 c = search needs
+
+two-bytes-requires-2 : tie.Need-two-bytes-requires-2
+two-bytes-requires-2 c κs = search needs
 
 returns-3 : tie.Need-returns-3
-unfolding recordAt
-returns-3 c = search (tests, ← c .before .before .word-at .ensures .0)
+returns-3 c = search body-cut
 
-add-t5 : tie.Need-add-t5
-add-t5 c = search needs
+add-t14 : tie.Need-add-t14
+add-t14 c = search needs
 
 returns-4 : tie.Need-returns-4
-unfolding recordAt
-returns-4 c = search (tests, ← c .before .before .word-at .ensures .0, ← c .before .word-at2 .ensures .0)
+returns-4 c = search body-in
 
 pub read-spec : {M : Type 1} → statement M
 read-spec =
     tie.close
     (tie.spec
     returns
-    sub-if2
+    sub-last
     returns-2
-    word-at-requires
-    add-word-at
-    word-at-requires-2
-    cast-kind
-    sub-if3
-    sub-if3-2
+    shared-slice-read-two-bytes
+    add-two-bytes
+    shared-slice-read-two-bytes-2
+    two-bytes-requires
+    cast-len
+    add-two-bytes-2
+    shared-slice-read-two-bytes-3
+    add-two-bytes-3
+    shared-slice-read-two-bytes-4
+    two-bytes-requires-2
     returns-3
-    add-t5
+    add-t14
     returns-4)

@@ -2,22 +2,23 @@ use Prim.Native.Nat.{_+_, _-_}
 use mathlib.Core.Path.{sym}
 use native.Mathlib.Omega.{arith}
 use borrow.Author.Needs.{needs}
+use Rattle.sheet.specs.Kept.Scanned.{Scanned}
 use Rattle.sheet.proofs.Records.{whole-within}
-use Rattle.sheet.proofs.Scanning.{Scanned, scan-start, lives-long, tops-long, scan-cut, reading-refused}
+use Rattle.sheet.proofs.Scanning.{scan-start, lives-long, tops-long, scan-cut, reading-refused}
 use Rattle.sheet.proofs.ScanTurns.{machine-first, machine-second, machine-room, machine-below, machine-few}
 use Rattle.sheet.proofs.ScanTurns.{machine-less, move-bytes, move-room, move-less, place-fits}
-use Rattle.sheet.proofs.ScanTurns.{scan-faulty, scan-machine, scan-repeated, scan-move}
-use Rattle.sheet.proofs.ScanTurns.{scan-trailing, scan-given, scan-index}
+use Rattle.sheet.proofs.ScanTurns.{machine-faulty, scan-machine, move-faulty, scan-repeated, scan-move}
+use Rattle.sheet.proofs.ScanTurns.{end-faulty, scan-trailing, scan-given, scan-index, scan-tail}
 use Rattle.sheet.proofs.scan.read.Statement.{statement}
 use Rattle.sheet.proofs.scan.read.Tie as tie
 
 abbrev Inv-loop : tie.InvT-loop
-Inv-loop s sheet₀ lives₀ tops₀ pairs₀ commands₀ at₀ sheet lives tops pairs commands at =
-    Scanned s sheet lives tops pairs commands at
+Inv-loop s sheet₀ lives₀ tops₀ pairs₀ commands₀ owners₀ at₀ sheet lives tops pairs commands owners at =
+    Scanned s sheet lives tops pairs commands owners at
 
 abbrev μ-loop : tie.MeasureT-loop
-μ-loop s sheet₀ lives₀ tops₀ pairs₀ commands₀ at₀ sheet lives tops pairs commands at =
-    283 - (sheet .machines + sheet .moves)
+μ-loop s sheet₀ lives₀ tops₀ pairs₀ commands₀ owners₀ at₀ sheet lives tops pairs commands owners at =
+    347 - (sheet .machines + sheet .moves)
 
 empty-requires : tie.Need-empty-requires Inv-loop μ-loop
 empty-requires c κs = search needs
@@ -34,11 +35,11 @@ enum-known-kind c = search needs
 enum-told : tie.Need-enum-told Inv-loop μ-loop
 enum-told c = search needs
 
-refusal-requires : tie.Need-refusal-requires Inv-loop μ-loop
-refusal-requires c κs = search needs
+refused-requires : tie.Need-refused-requires Inv-loop μ-loop
+refused-requires c κs = search needs
 
 returns : tie.Need-returns Inv-loop μ-loop
-returns c = reading-refused _ (c .refusal .result) (c .refusal .ensures) (search scan-cut)
+returns c = reading-refused _ (c .refused .result) (c .refused .ensures) (search scan-cut)
 
 part-body-end : tie.Need-part-body-end Inv-loop μ-loop
 part-body-end c = search whole-within
@@ -52,23 +53,17 @@ sub-body c = search needs
 part-body-start : tie.Need-part-body-start Inv-loop μ-loop
 part-body-start c = search needs
 
-slice-aggregate-judge : tie.Need-slice-aggregate-judge Inv-loop μ-loop
-slice-aggregate-judge c = search tops-long
-
-slice-aggregate-judge-2 : tie.Need-slice-aggregate-judge-2 Inv-loop μ-loop
-slice-aggregate-judge-2 c = search lives-long
-
-judge-requires : tie.Need-judge-requires Inv-loop μ-loop
-judge-requires c κs = search needs
+judge-machine-requires : tie.Need-judge-machine-requires Inv-loop μ-loop
+judge-machine-requires c κs = search needs
 
 enum-known-j : tie.Need-enum-known-j Inv-loop μ-loop
 enum-known-j c = search needs
 
-refusal-requires-2 : tie.Need-refusal-requires-2 Inv-loop μ-loop
-refusal-requires-2 c κs = search needs
+refused-requires-2 : tie.Need-refused-requires-2 Inv-loop μ-loop
+refused-requires-2 c κs = search needs
 
 returns-2 : tie.Need-returns-2 Inv-loop μ-loop
-returns-2 c = reading-refused _ (c .refusal2 .result) (c .refusal2 .ensures) (search scan-faulty)
+returns-2 c = reading-refused _ (c .refused2 .result) (c .refused2 .ensures) (search machine-faulty)
 
 enum-told-2 : tie.Need-enum-told-2 Inv-loop μ-loop
 enum-told-2 c = search needs
@@ -103,30 +98,54 @@ loop-less c = search machine-less
 loop-again : tie.Need-loop-again Inv-loop μ-loop
 loop-again c = search scan-machine
 
+slice-aggregate-judge-move : tie.Need-slice-aggregate-judge-move Inv-loop μ-loop
+slice-aggregate-judge-move c = search tops-long
+
+slice-aggregate-judge-move-2 : tie.Need-slice-aggregate-judge-move-2 Inv-loop μ-loop
+slice-aggregate-judge-move-2 c = search lives-long
+
+judge-move-requires : tie.Need-judge-move-requires Inv-loop μ-loop
+judge-move-requires c κs = search needs
+
+enum-known-j-2 : tie.Need-enum-known-j-2 Inv-loop μ-loop
+enum-known-j-2 c = search needs
+
+refused-requires-3 : tie.Need-refused-requires-3 Inv-loop μ-loop
+refused-requires-3 c κs = search needs
+
+returns-3 : tie.Need-returns-3 Inv-loop μ-loop
+returns-3 c = reading-refused _ (c .refused3 .result) (c .refused3 .ensures) (search move-faulty)
+
+enum-told-3 : tie.Need-enum-told-3 Inv-loop μ-loop
+enum-told-3 c = search needs
+
 slice-aggregate-added : tie.Need-slice-aggregate-added Inv-loop μ-loop
 slice-aggregate-added c = search sym
 
 slice-aggregate-added-2 : tie.Need-slice-aggregate-added-2 Inv-loop μ-loop
 slice-aggregate-added-2 c = search sym
 
+slice-aggregate-added-3 : tie.Need-slice-aggregate-added-3 Inv-loop μ-loop
+slice-aggregate-added-3 c = search sym
+
 added-requires : tie.Need-added-requires Inv-loop μ-loop
-added-requires c κs = (search needs, search move-bytes)
+added-requires c κs = (search needs, search move-bytes, search move-room)
 
-refusal-requires-3 : tie.Need-refusal-requires-3 Inv-loop μ-loop
-refusal-requires-3 c κs = search needs
+refused-requires-4 : tie.Need-refused-requires-4 Inv-loop μ-loop
+refused-requires-4 c κs = search needs
 
-returns-3 : tie.Need-returns-3 Inv-loop μ-loop
-returns-3 c =
+returns-4 : tie.Need-returns-4 Inv-loop μ-loop
+returns-4 c =
     let at-if = c .before in
-    let at-added = at-if .before .before .before in
-    let at-move = at-added .before .before .before in
-    let at-fine = at-move .before in
+    let at-added = at-if .before .before .before .before in
+    let at-fine = at-added .before .before .before .before in
     let at-judge = at-fine .before .before in
-    let at-kind = at-judge .before .before .before .before .before in
+    let at-move = at-judge .before .before .before in
+    let at-kind = at-move .before .before .before in
     let at-record = at-kind .before .before in
-    reading-refused _ (c .refusal3 .result) (c .refusal3 .ensures)
-    (scan-repeated (at-record .before .loop .inv) (at-record .record-at .ensures) (at-kind .kind .given .1) _
-    (at-judge .judge .ensures) (at-fine .enum-told2 .given .1) (at-move .match3 .keys2) (at-added .added .ensures)
+    reading-refused _ (c .refused4 .result) (c .refused4 .ensures)
+    (scan-repeated (at-record .before .loop .inv) (at-record .record-at .ensures) (at-kind .kind .given .1)
+    (at-move .match2 .keys2) _ (at-judge .judge-move .ensures) (at-fine .enum-told3 .given .1) (at-added .added .ensures)
     (at-if .if1 .taken))
 
 cast-sheet : tie.Need-cast-sheet Inv-loop μ-loop
@@ -147,14 +166,47 @@ loop-less-2 c = search move-less
 loop-again-2 : tie.Need-loop-again-2 Inv-loop μ-loop
 loop-again-2 c = search scan-move
 
-refusal-requires-4 : tie.Need-refusal-requires-4 Inv-loop μ-loop
-refusal-requires-4 c κs = search needs
+judge-end-requires : tie.Need-judge-end-requires Inv-loop μ-loop
+judge-end-requires c κs = search needs
 
-returns-4 : tie.Need-returns-4 Inv-loop μ-loop
-returns-4 c = reading-refused _ (c .refusal4 .result) (c .refusal4 .ensures) (search scan-trailing)
+enum-known-j-3 : tie.Need-enum-known-j-3 Inv-loop μ-loop
+enum-known-j-3 c = search needs
+
+refused-requires-5 : tie.Need-refused-requires-5 Inv-loop μ-loop
+refused-requires-5 c κs = search needs
 
 returns-5 : tie.Need-returns-5 Inv-loop μ-loop
-returns-5 c = (search scan-given, search scan-index)
+returns-5 c = reading-refused _ (c .refused5 .result) (c .refused5 .ensures) (search end-faulty)
+
+enum-told-4 : tie.Need-enum-told-4 Inv-loop μ-loop
+enum-told-4 c = search needs
+
+refused-requires-6 : tie.Need-refused-requires-6 Inv-loop μ-loop
+refused-requires-6 c κs = search needs
+
+returns-6 : tie.Need-returns-6 Inv-loop μ-loop
+returns-6 c = reading-refused _ (c .refused6 .result) (c .refused6 .ensures) (search scan-trailing)
+
+returns-7 : tie.Need-returns-7 Inv-loop μ-loop
+returns-7 c = (search scan-given, search scan-index)
+
+slice-aggregate-read-tail : tie.Need-slice-aggregate-read-tail Inv-loop μ-loop
+slice-aggregate-read-tail c = search tops-long
+
+slice-aggregate-read-tail-2 : tie.Need-slice-aggregate-read-tail-2 Inv-loop μ-loop
+slice-aggregate-read-tail-2 c = search sym
+
+slice-aggregate-read-tail-3 : tie.Need-slice-aggregate-read-tail-3 Inv-loop μ-loop
+slice-aggregate-read-tail-3 c = search sym
+
+slice-aggregate-read-tail-4 : tie.Need-slice-aggregate-read-tail-4 Inv-loop μ-loop
+slice-aggregate-read-tail-4 c = search sym
+
+read-tail-requires : tie.Need-read-tail-requires Inv-loop μ-loop
+read-tail-requires c κs = search scan-tail
+
+returns-8 : tie.Need-returns-8 Inv-loop μ-loop
+returns-8 c = search needs
 
 pub read-spec : {M : Type 1} → statement M
 read-spec =
@@ -167,17 +219,15 @@ read-spec =
     record-at-requires
     enum-known-kind
     enum-told
-    refusal-requires
+    refused-requires
     returns
     add-end
     sub-body
     part-body-start
     part-body-end
-    slice-aggregate-judge
-    slice-aggregate-judge-2
-    judge-requires
+    judge-machine-requires
     enum-known-j
-    refusal-requires-2
+    refused-requires-2
     returns-2
     enum-told-2
     shared-slice-read-sheet
@@ -190,17 +240,36 @@ read-spec =
     array-write-tops
     loop-less
     loop-again
+    slice-aggregate-judge-move
+    slice-aggregate-judge-move-2
+    judge-move-requires
+    enum-known-j-2
+    refused-requires-3
+    returns-3
+    enum-told-3
     slice-aggregate-added
     slice-aggregate-added-2
+    slice-aggregate-added-3
     added-requires
-    refusal-requires-3
-    returns-3
+    refused-requires-4
+    returns-4
     cast-sheet
     mul-sheet
     element-write-sheet-2
     add-sheet-2
     loop-less-2
     loop-again-2
-    refusal-requires-4
-    returns-4
-    returns-5)
+    judge-end-requires
+    enum-known-j-3
+    refused-requires-5
+    returns-5
+    enum-told-4
+    refused-requires-6
+    returns-6
+    returns-7
+    slice-aggregate-read-tail
+    slice-aggregate-read-tail-2
+    slice-aggregate-read-tail-3
+    slice-aggregate-read-tail-4
+    read-tail-requires
+    returns-8)

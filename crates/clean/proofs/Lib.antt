@@ -1,0 +1,3 @@
+pub mod Cleaned
+pub mod Sheets
+pub mod Writing
