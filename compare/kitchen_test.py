@@ -5,6 +5,7 @@ import os
 import random
 import re
 import resource
+import shutil
 import subprocess
 import tempfile
 import tomllib
@@ -61,6 +62,22 @@ SHEET = bytes([2, 0, 1, 0, 2, 3, 2, 0, 1, 0, 2, 3, 2, 0, 1, 0, 3, 3,
                4, 0, 2, 0, 0, 0, 1, 1, 4, 0, 2, 0, 0, 1, 0, 2,
                8, 0, 2, 0, 1, 0, 1, 1, 0, 2, 2, 1, 8, 0, 2, 0, 2, 0, 1, 1, 0, 2, 1, 3, 0, 0, 3, 0])
 FILES = {"sheet.bin": SHEET, "state.bin": bytes([1, 0, 0, 1, 0, 0]), "wish.bin": bytes([3, 3, 3]), "wish2.bin": bytes([2])}
+
+# The same with amendments, from line 23 on, the bytes of these, and the clean text.
+AMENDED = TEXT.replace("notes = ", """\
+amendments = [  # by a fitter
+    { machine = "burner", from = "off", to = "lit", command = 1, needs = { fan = "on" } },
+    { machine = "board", from = "on", command = 2, withdrawn = true },
+
+    { machine = "burner", from = "off", to = "lit", command = 1, needs = { fan = [
+        "on"], board = "on" } },
+]
+notes = """, 1)
+TAIL = bytes([6, 0, 4, 0, 2, 0, 1, 1, 1, 2, 3, 0, 5, 0, 0, 1, 2, 8, 0, 4, 0, 2, 0, 1, 1, 0, 2, 1, 2])
+AMENDED_SHEET = SHEET[:-4] + TAIL + SHEET[-4:]
+CLEAN = TEXT.replace('    { machine = "board", from = "on", to = "off", command = 2 },\n', "").replace(
+    '["off",\n        "on"] } }', '"on" } }')
+CLEAN_SHEET = SHEET[:26] + SHEET[34:57] + bytes([2]) + SHEET[-4:]
 
 # What is put in place of what, and all faults that are told: line and reason, or how the reason begins.
 A_NAME = "a name must be words on one line, in quotes"
@@ -119,11 +136,46 @@ FAULTS = [
     ("short = [", "wish3 = [1,\n2,\n256]\nshort = [", [(30, A_BYTE)]),
     ("short = [", 'wish3 = [1, "2"]\nshort = [', [(28, A_BYTE)]),
     ("short = [", "wish3 = []\nshort = [", [(28, "a list of bytes must have some")]),
+    ("command = 2 }", "command = 2, withdrawn = true }", [(18, 'unknown: "withdrawn"; known here: machine, from, ')]),
 ]
 
-def run(*arguments, told="", **options):
+# The same of the amended text.
+AMENDED_FAULTS = [
+    ("amendments = [", "amendment = [", [(23, 'unknown: "amendment"; ')]),
+    ("amendments = [", "amendments = true #", [(24, "Invalid statement (at line 24, column 5)")]),
+    ("amendments = [", 'amendments = "none"\nx = [', [(23, "amendments must be a list"), (24, 'unknown: "x"; ')]),
+    ("amendments = [", "amendments = [7,", [(23, "a table must stand here: { .. }")]),
+    ('"lit", command = 1, needs = { fan', '"lit", command = 1, command = 1, needs = { fan', [
+        (24, "Duplicate inline table key 'command' (at line 24, ")]),
+    ("{ fan = \"on\" }", "{ fan = \"high\" }", [(24, 'fan has no mode "high"')]),
+    ("{ fan = \"on\" }", "{ hood = \"on\" }", [(24, 'unknown: "hood"; known here: board, fan, burner')]),
+    ('"on", command = 2, withdrawn', '"on", command = 256, withdrawn', [(25, "command 256 is no byte: 1 to 255")]),
+    ('"on", command = 2, withdrawn', '"on", withdrawn', [(25, "missing: command")]),
+    ('"on", command = 2, withdrawn', '"on", command = "2", withdrawn', [(25, "command must be a whole number")]),
+    ('"board", from = "on", command', '"borad", from = "on", command', [(25, 'no machine "borad"')]),
+    ('"board", from = "on", command', '"board", from = "lit", command', [(25, 'board has no mode "lit"')]),
+    ('"board", from = "on", command', '"board", command', [(25, "missing: from")]),
+    ('{ machine = "board", from = "on", command', '{ from = "on", command', [(25, "missing: machine")]),
+    ('{ machine = "board", from = "on", command', '{ board = "on", command', [
+        (25, 'unknown: "board"; known here: machine, from, to, command, needs, withdrawn'),
+        (25, "missing: machine"), (25, "missing: from")]),
+    ("withdrawn = true", 'withdrawn = true, to = "off"', [(25, "a withdrawn move has no to")]),
+    ("withdrawn = true", 'withdrawn = true, needs = {}', [(25, "a withdrawn move has no needs")]),
+    ("withdrawn = true", 'withdrawn = true, needs = {}, to = "of"', [
+        (25, "a withdrawn move has no to"), (25, "a withdrawn move has no needs"), (25, 'board has no mode "of"')]),
+    ("withdrawn = true", "withdrawn = false", [(25, "missing: to")]),
+    (", withdrawn = true", "", [(25, "missing: to")]),
+    ("withdrawn = true", 'withdrawn = "yes"', [(25, "withdrawn must be true or false")]),
+    ("withdrawn = true", "withdrawn = 1", [(25, "withdrawn must be true or false")]),
+    ("withdrawn = true", "withdrawed = true", [(25, 'unknown: "withdrawed"; '), (25, "missing: to")]),
+    ('"lit", command = 1, needs = { fan = [', '["lit"], command = 1, needs = { fan = [', [(27, "to must be text in quotes")]),
+    ('        "on"], board', '        "of"], board', [(28, 'fan has no mode "of"')]),
+]
+
+
+def run(*arguments, told="", root=ROOT, **options):
     """Runs ./kitchen, and gives its status and what it writes."""
-    ran = subprocess.run([ROOT / "kitchen", *arguments], input=told, capture_output=True, text=True, timeout=60, **options)
+    ran = subprocess.run([root / "kitchen", *arguments], input=told, capture_output=True, text=True, timeout=60, **options)
     return ran.returncode, ran.stdout, ran.stderr
 
 
@@ -158,6 +210,36 @@ def step(machine="a", start="m0", end="m1", command=1, needs=""):
     return f'{{ machine = "{machine}", from = "{start}", to = "{end}", command = {command}, needs = {{ {needs} }} }}'
 
 
+def gone(machine="a", start="m0", command=1):
+    """The line of a text that withdraws a move."""
+    return f'{{ machine = "{machine}", from = "{start}", command = {command}, withdrawn = true }}'
+
+
+def amended_text(machines, moves, amendments):
+    """A text with its amendments from the second line behind its moves."""
+    lines = "".join(f"{line},\n" for line in amendments)
+    return text_of(machines, moves, f"amendments = [\n{lines}]\n")
+
+
+def random_amendments(pick):
+    """Moves of the machines a and b, amendments of those that stand, and what stands in the end."""
+    keys = [(name, start, command) for name in "ab" for start in range(2) for command in range(1, 9)]
+    line = lambda key, end, needs: step(key[0], f"m{key[1]}", f"m{end}", key[2], needs)
+    some = lambda key: line(key, 1 - key[1], pick.choice(["", f'{"ba"[key[0] == "b"]} = "m{pick.randrange(2)}"']))
+    standing = [(key, some(key)) for key in pick.sample(keys, pick.randint(1, 24))]
+    moves, amendments = [said for _, said in standing], []
+    while standing and len(amendments) < pick.randint(1, 40):
+        place = pick.randrange(len(standing))
+        key, _ = standing[place]
+        if pick.randrange(2):
+            standing[place] = key, some(key)
+            amendments.append(standing[place][1])
+        else:
+            del standing[place]
+            amendments.append(gone(key[0], f"m{key[1]}", key[2]))
+    return moves, amendments, [said for _, said in standing]
+
+
 AB = [machine("a"), machine("b")]
 TWELVE = [machine(f"d{n}") for n in range(12)]
 NEEDS = ", ".join(f'd{n} = "m1"' for n in range(1, 10))
@@ -184,6 +266,22 @@ REFUSED = [
     (text_of(AB, [step(), step("b", command=0)]), 8, 20, "move 1, b: m0 to m1 (command 0), FOLDER/kitchen.toml:8"),
     (text_of([machine("a", 3)], [step(), step(end="m2")]), 8, 14, "move 1, a: m0 to m2 (command 1), FOLDER/kitchen.toml:7"),
     (text_of(TWELVE, [step("d11"), step("d0", needs=NEEDS)]), 2, 80, "move 1, d0: m0 to m1 (command 1), FOLDER/kitchen.toml:18"),
+]
+
+# The same of texts with amendments: the moves are BACK, in lines 7 to 9, and the amendments stand from line 12 on.
+ABSENT = "an amendment for which no move stands, a 65th one, or a move behind one"
+REFUSED_AMENDMENTS = [
+    ([gone(command=2)], 21, 38, "amendment 0, a: from m0 (command 2) withdrawn, FOLDER/kitchen.toml:12"),
+    ([gone("b", "m1")], 21, 38, "amendment 0, b: from m1 (command 1) withdrawn, FOLDER/kitchen.toml:12"),
+    ([gone("b", command=0)], 21, 38, "amendment 0, b: from m0 (command 0) withdrawn, FOLDER/kitchen.toml:12"),
+    ([step("b", "m1", "m0")], 21, 38, "amendment 0, b: m1 to m0 (command 1), FOLDER/kitchen.toml:12"),
+    ([gone(), gone()], 21, 45, "amendment 1, a: from m0 (command 1) withdrawn, FOLDER/kitchen.toml:13"),
+    ([step(), gone(), step()], 21, 53, "amendment 2, a: m0 to m1 (command 1), FOLDER/kitchen.toml:14"),
+    ([step()] * 64 + [gone()], 21, 550, "amendment 64, a: from m0 (command 1) withdrawn, FOLDER/kitchen.toml:76"),
+    ([step()] * 64 + [step(command=0)], 8, 550, "amendment 64, a: m0 to m1 (command 0), FOLDER/kitchen.toml:76"),
+    ([gone("b"), step(end="m0")], 6, 45, "amendment 1, a: m0 to m0 (command 1), FOLDER/kitchen.toml:13"),
+    ([step(needs='a = "m0"')], 7, 38, "amendment 0, a: m0 to m1 (command 1), FOLDER/kitchen.toml:12"),
+    ([step(command=0)], 8, 38, "amendment 0, a: m0 to m1 (command 0), FOLDER/kitchen.toml:12"),
 ]
 
 # What the walk refuses, of a state and wishes behind the machines a and b, each with a move to and fro.
@@ -219,6 +317,18 @@ UNSAID = [
     (lambda sheet: sheet[:44] + bytes([2, 8]) + sheet[46:], 34),
     (lambda sheet: sheet[:18] + bytes([5, 0, 2, 0, 0, 0, 1, 1, 1]) + sheet[26:], 18),
     (lambda sheet: b"", 0),
+    (lambda sheet: sheet[:-4] + TAIL + sheet[18:26] + sheet[-4:], 87),
+    (lambda sheet: sheet[:-4] + TAIL + sheet[:6] + sheet[-4:], 87),
+    (lambda sheet: sheet[:18] + TAIL[10:17] + sheet[:6] + sheet[-4:], 25),
+    (lambda sheet: sheet[:-4] + bytes([2, 0, 5, 0, 0, 1]) + sheet[-4:], 58),
+    (lambda sheet: sheet[:-4] + bytes([4, 0, 5, 0, 0, 1, 0, 2]) + sheet[-4:], 58),
+    (lambda sheet: sheet[:-4] + bytes([3, 0, 4, 0, 0, 1, 2]) + sheet[-4:], 58),
+    (lambda sheet: sheet[:-4] + bytes([3, 0, 2, 0, 0, 1, 2]) + sheet[-4:], 58),
+    (lambda sheet: sheet[:-4] + bytes([3, 0, 5, 0, 3, 0, 1]) + sheet[-4:], 58),
+    (lambda sheet: sheet[:-4] + bytes([3, 0, 5, 0, 0, 2, 1]) + sheet[-4:], 58),
+    (lambda sheet: sheet[:-4] + bytes([3, 0, 6, 0, 0, 1, 2]) + sheet[-4:], 58),
+    (lambda sheet: sheet[:-4] + bytes([4, 0, 4, 0, 0, 1, 2, 2]) + sheet[-4:], 58),
+    (lambda sheet: sheet[:-4] + bytes([4, 0, 4, 0, 3, 0, 1, 1]) + sheet[-4:], 58),
 ]
 
 
@@ -239,6 +349,11 @@ class Case(unittest.TestCase):
         """What is told, with the folder's path as FOLDER."""
         return told.replace(str(self.folder), "FOLDER")
 
+    def part(self, title):
+        """The part of the page in the folder under a title."""
+        _, behind = (self.folder / "README.md").read_text().split(f"\n\n## {title}\n\n")
+        return re.split(r"\n\n(?:## |This page )", behind)[0]
+
     def written(self, text=TEXT):
         """Writes a text, and gives the bytes that stand there then."""
         self.put(text)
@@ -248,7 +363,7 @@ class Case(unittest.TestCase):
 
 class Examples(Case):
     def test_every_example_is_what_its_text_says(self):
-        self.assertEqual(len(EXAMPLES), 15)
+        self.assertEqual(len(EXAMPLES), 16)
         self.assertEqual(run("check", *EXAMPLES), (0, "", ""))
 
     def test_no_example_has_other_bytes(self):
@@ -281,7 +396,7 @@ class Examples(Case):
             if "like" not in values:
                 self.assertEqual(read["machines"], values["machines"], example)
                 self.assertEqual(read["moves"], values["moves"], example)
-            for key in ["state", "wish", "wish2", "tags", "short"]:
+            for key in ["amendments", "state", "wish", "wish2", "tags", "short"]:
                 self.assertEqual(read.get(key), values.get(key), (example, key))
 
     def test_every_walk_is_told(self):
@@ -334,10 +449,10 @@ class Texts(Case):
         self.assertIn("kitchen.toml:18: command 256", run("write", self.folder)[2])
 
     def test_faults_are_told_by_line(self):
-        for old, new, faults in FAULTS:
+        for text, (old, new, faults) in [(TEXT, case) for case in FAULTS] + [(AMENDED, case) for case in AMENDED_FAULTS]:
             with self.subTest(new):
-                self.assertIn(old, TEXT)
-                self.put(TEXT.replace(old, new, 1))
+                self.assertIn(old, text)
+                self.put(text.replace(old, new, 1))
                 before = sides(self.folder)
                 status, out, told = run("write", self.folder)
                 self.assertEqual((status, out, sides(self.folder)), (1, "", before))
@@ -380,6 +495,61 @@ a = "m2"
         self.assertEqual(self.written(text), {"state.bin": bytes([1, 0, 1, 0]), "sheet.bin": bytes([
             2, 0, 1, 0, 2, 3, 2, 0, 1, 0, 2, 3, 6, 0, 2, 0, 1, 0, 1, 1, 0, 2, 6, 0, 2, 0, 1, 1, 0, 2, 0, 2, 0, 0, 3, 0])})
 
+    def test_amendments_give_their_bytes(self):
+        self.assertEqual(self.written(AMENDED), {**FILES, "sheet.bin": AMENDED_SHEET})
+        self.assertEqual(run("check", self.folder), (0, "", ""))
+        self.assertEqual(self.written(CLEAN), {**FILES, "sheet.bin": CLEAN_SHEET})
+        files = self.written(AMENDED.replace("withdrawn = true", 'withdrawn = false, to = "off"'))
+        self.assertEqual(files["sheet.bin"], AMENDED_SHEET[:68] + bytes([4, 0, 4, 0, 0, 1, 0, 2]) + AMENDED_SHEET[75:])
+        self.assertEqual(self.written(TEXT.replace("notes = ", "amendments = []\nnotes = ", 1)), FILES)
+
+    def test_amendments_in_tables_of_their_own(self):
+        text = text_of(AB, BACK) + """[[amendments]]
+machine = "b"
+from = "m0"
+to = "m1"
+command = 1
+needs.a = "m0"
+[[amendments]]
+machine = "a"
+from = "m1"
+command = 1
+withdrawn = true
+"""
+        self.put(text.replace("withdrawn = true", 'to = "m2"'))
+        self.assertEqual(self.here(run("check", self.folder)[2]), 'kitchen: FOLDER/kitchen.toml:21: a has no mode "m2"\n')
+        tail = bytes([6, 0, 4, 0, 1, 0, 1, 1, 0, 1, 3, 0, 5, 0, 0, 1, 1, 0, 0, 3, 0])
+        self.assertEqual(self.written(text)["sheet.bin"][-len(tail):], tail)
+
+    def test_the_page_shows_what_stands_and_what_was_amended(self):
+        self.written(CLEAN)
+        moves = self.part("Moves")
+        self.written(AMENDED)
+        self.assertEqual(self.part("Moves"), moves)
+        self.assertEqual(self.part("Amendments"), """\
+They act in this order; the moves above are those that then stand.
+
+| No. | Machine | From | Command | Was | Is now |
+|---|---|---|---|---|---|
+| 0 | burner | off | 1 | to lit, waits for board on, fan off or on | to lit, waits for fan on |
+| 1 | board | on | 2 | to off, waits for nothing | withdrawn |
+| 2 | burner | off | 1 | to lit, waits for fan on | to lit, waits for board on, fan on |""")
+
+    def test_the_page_shows_amendments_that_find_nothing(self):
+        self.written(amended_text(AB, [step()], [gone(), gone(), step(), step(command=2)]))
+        self.assertEqual(self.part("Moves"), "None.")
+        self.assertEqual(self.part("Amendments").splitlines()[-3:], [
+            "| 1 | a | m0 | 1 | no such move | withdrawn |", "| 2 | a | m0 | 1 | no such move | to m1, waits for nothing |",
+            "| 3 | a | m0 | 2 | no such move | to m1, waits for nothing |"])
+
+    def test_random_amendments_leave_what_stands(self):
+        for seed in range(12):
+            moves, amendments, standing = random_amendments(random.Random(seed))
+            self.written(text_of(AB, standing))
+            clean = self.part("Moves")
+            self.written(amended_text(AB, moves, amendments))
+            self.assertEqual(self.part("Moves"), clean, seed)
+
     def test_ten_faults_are_told_and_the_rest_counted(self):
         self.put(text_of(AB, [step(command=256)] * 13))
         told = run("write", self.folder)[2].splitlines()
@@ -403,6 +573,24 @@ a = "m2"
         (other / "kitchen.toml").write_text(TEXT.replace("command = 2", "command = 256"))
         self.assertEqual(run("check", self.folder)[2], f"kitchen: {other}/kitchen.toml:18: command 256 is no byte: 1 to 255\n")
 
+    def test_like_takes_amendments_and_more_may_follow(self):
+        other = self.folder.parent / "other"
+        other.mkdir()
+        (other / "kitchen.toml").write_text(AMENDED)
+        files = self.written('title = "u"\nlike = "../other"\n')
+        self.assertEqual(files, {"sheet.bin": AMENDED_SHEET})
+        self.assertNotIn("##", (self.folder / "README.md").read_text())
+        files = self.written('title = "u"\nlike = "../other"\namendments = [\n'
+                             '{ machine = "fan", from = "off", command = 1, withdrawn = true },\n]\n')
+        self.assertEqual(files, {"sheet.bin": AMENDED_SHEET[:-4] + bytes([3, 0, 5, 0, 1, 0, 1, 0, 0, 3, 0])})
+        page = (self.folder / "README.md").read_text()
+        self.assertIn("those of [A stove with [brackets], #1](../other/README.md), the moves as amended here.", page)
+        self.assertEqual(self.part("Moves").splitlines()[-1], "| 1 | burner | off | lit | 1 | board on, fan on |")
+        self.assertEqual(self.part("Amendments").count("\n| "), 1 + 4)
+        for byte, told in [(85, f"amendment 2, burner: off to lit (command 1), {other}/kitchen.toml:27"),
+                           (87, "amendment 3, fan: from off (command 1) withdrawn, FOLDER/kitchen.toml:4")]:
+            self.assertIn(f"refused 21 at {told}: ", self.here(run("tell", self.folder, told=f"refused 21 {byte}")[1]))
+
     def test_like_stands_alone_and_leads_somewhere(self):
         self.put(TEXT.replace("short = [", 'like = "nowhere"\nshort = ['))
         self.assertEqual(self.here(run("check", self.folder)[2]).splitlines(), [f"kitchen: FOLDER/kitchen.toml:{said}" for said in [
@@ -421,7 +609,8 @@ a = "m2"
 
 class Library(Case):
     def test_what_the_library_refuses_is_passed_on(self):
-        for text, number, byte, told in REFUSED:
+        amended = [(amended_text(AB, BACK, amendments), *rest) for amendments, *rest in REFUSED_AMENDMENTS]
+        for text, number, byte, told in REFUSED + amended:
             with self.subTest(told):
                 self.written(text)
                 said = program("show", self.folder)
@@ -460,6 +649,24 @@ class Library(Case):
         status, told, wrong = run("tell", kitchen, told=program("show", kitchen))
         self.assertEqual((status, wrong, "does not say" in told), (0, "", False))
 
+    def test_every_line_of_an_amended_sheet_is_told(self):
+        self.written(AMENDED)
+        status, told, wrong = run("tell", self.folder, told=program("show", self.folder))
+        self.assertEqual((status, wrong), (0, ""))
+        self.assertEqual(told.splitlines()[3:], [
+            "move 0, board: off to on (command 1)",
+            "move 1, fan: off to on (command 1), waits for board on, burner off",
+            "move 2, burner: off to lit (command 1), waits for board on, fan on",
+            "3 machines, 3 moves, 12 states"])
+
+    def test_the_library_reads_an_amended_text_as_the_clean_one(self):
+        for seed in range(12):
+            moves, amendments, standing = random_amendments(random.Random(seed))
+            self.written(text_of(AB, standing))
+            clean = program("show", self.folder)
+            self.written(amended_text(AB, moves, amendments))
+            self.assertEqual(program("show", self.folder), clean, seed)
+
 
 class Telling(Case):
     def setUp(self):
@@ -488,17 +695,18 @@ class Telling(Case):
     def test_other_lines_are_passed_on(self):
         for line in ["", "hello", "1 2", "0 1 0 0", "done 4", "refused", "3 machines, 7 moves, 12 states"]:
             self.assertEqual(self.told(line, 0), line)
-        self.assertEqual(self.told("refused 21 3", 1), "refused 21 3")
+        self.assertEqual(self.told("refused 99 3", 1), "refused 99 3")
 
     def test_every_cause_has_words_and_a_place(self):
         rows = re.findall(r"^\| (\d+) \| (.*?) \| .* \|$", (ROOT / "docs/REFUSALS.md").read_text(), re.M)
-        self.assertEqual({int(number) for number, _ in rows}, set(range(1, 21)))
+        self.assertEqual({int(number) for number, _ in rows}, set(range(1, 22)))
         words = {number: cause for number, cause in reversed(rows)}
-        for number in range(1, 21):
-            at = " at machine 1, fan, FOLDER/kitchen.toml:10" if number < 9 else " at burner"
+        for number in range(1, 22):
+            sheet = number < 9 or number == 21
+            at = " at machine 1, fan, FOLDER/kitchen.toml:10" if sheet else " at burner"
             if number in (10, 11, 12, 15, 20):
                 at = ""
-            line = f"refused {number} {8 if number < 9 else 2}"
+            line = f"refused {number} {8 if sheet else 2}"
             self.assertEqual(self.told(line, 1), f"refused {number}{at}: {words[str(number)]}")
         self.assertEqual(self.told("refused 13 255", 1), f"refused 13 at the length: {words['13']}")
         self.assertEqual(self.told("refused 14 255", 1), f"refused 14 at the length: {words['14']}")
@@ -508,6 +716,27 @@ class Telling(Case):
                            (18, "move 0, board: off to on (command 1)"), (57, "move 3, burner: off to lit (command 1)"),
                            (58, "the end of the sheet"), (61, "the end of the sheet")]:
             self.assertIn(f"refused 2 at {told}, FOLDER/kitchen.toml", self.told(f"refused 2 {byte}", 1))
+
+    def test_moves_are_told_by_their_numbers_after_amending(self):
+        self.written(AMENDED)
+        self.assertEqual(self.told("1 1 1", 0), "fan: off to on (command 1, move 1)")
+        self.assertEqual(self.told("2 1 2", 0), "burner: off to lit (command 1, move 2)")
+        self.assertEqual(self.told("2 1 3", 1), "2 1 3: kitchen.toml has no move 3")
+        needs = "needs machine 0 in 1, needs machine 1 in"
+        self.assertEqual(self.told(f"move 2: machine 2 from 0 to 1, command 1, {needs} 1", 0),
+                         "move 2, burner: off to lit (command 1), waits for board on, fan on")
+        self.assertIn("kitchen.toml does not say so", self.told(f"move 2: machine 2 from 0 to 1, command 1, {needs} 0 1", 1))
+
+    def test_records_of_an_amended_sheet(self):
+        self.written(AMENDED)
+        for byte, told in [(26, "move 1 as sent, board: on to off (command 2), FOLDER/kitchen.toml:18"),
+                           (57, "move 3 as sent, burner: off to lit (command 1), FOLDER/kitchen.toml:20"),
+                           (58, "amendment 0, burner: off to lit (command 1), FOLDER/kitchen.toml:24"),
+                           (67, "amendment 0, burner: off to lit (command 1), FOLDER/kitchen.toml:24"),
+                           (68, "amendment 1, board: from on (command 2) withdrawn, FOLDER/kitchen.toml:25"),
+                           (75, "amendment 2, burner: off to lit (command 1), FOLDER/kitchen.toml:27"),
+                           (87, "the end of the sheet, FOLDER/kitchen.toml"), (91, "byte 91, behind the end of the sheet")]:
+            self.assertIn(f"refused 21 at {told}: an amendment for which no move stands, ", self.told(f"refused 21 {byte}", 1))
 
     def test_bytes_of_another_text_are_told(self):
         self.put(TEXT.replace('fan = "off"', 'fan = "on"'))
@@ -537,8 +766,22 @@ class Reading(Case):
         self.put(sheet=SHEET, state=b"")
         self.assertEqual(run("read", self.folder)[:2], (1, ""))
 
+    def test_amendments_are_read_back_by_name(self):
+        files = self.written(AMENDED)
+        status, text, wrong = run("read", self.folder)
+        self.assertEqual((status, wrong), (0, ""))
+        self.assertIn("""
+amendments = [
+    { machine = "burner", from = "off", to = "lit", command = 1, needs = { fan = "on" } },
+    { machine = "board", from = "on", command = 2, withdrawn = true },
+    { machine = "burner", from = "off", to = "lit", command = 1, needs = { board = "on", fan = "on" } },
+]
+""", text)
+        self.assertEqual(self.written(text), files)
+
     def test_refused_texts_are_read_back(self):
-        for text, _, _, told in REFUSED:
+        amended = [(amended_text(AB, BACK, amendments), *rest) for amendments, *rest in REFUSED_AMENDMENTS]
+        for text, _, _, told in REFUSED + amended:
             with self.subTest(told):
                 files = self.written(text)
                 if len(files["sheet.bin"]) < 1000 and "m263" not in text:
@@ -590,12 +833,13 @@ class Reading(Case):
             counts = [pick.randint(1, 8) for _ in range(pick.randint(1, 32))]
             some = lambda count: pick.randint(0, 2 ** count - 1)
             sheet = b"".join(bytes([2, 0, 1, 0, count, some(count)]) for count in counts)
-            for _ in range(pick.randint(0, 40)):
+            for kind in [2] * pick.randint(0, 40) + pick.choices([4, 5], k=pick.randint(0, 20)):
                 number = pick.randrange(len(counts))
                 others = sorted(pick.sample(range(len(counts)), pick.randint(0, min(8, len(counts)))))
                 needs = bytes(value for other in others for value in (other, some(counts[other])))
                 body = bytes([number, pick.randrange(counts[number]), pick.randrange(counts[number]), pick.randrange(256)])
-                sheet += bytes([4 + len(needs), 0, 2, 0]) + body + needs
+                body = body[:2] + body[3:] if kind == 5 else body + needs
+                sheet += bytes([len(body), 0, kind, 0]) + body
             self.put(sheet=sheet + bytes([0, 0, 3, 0]),
                      state=bytes(value for count in counts for value in (pick.randrange(count), pick.randrange(2))),
                      wish=bytes(map(some, counts)), wish3=bytes(map(some, counts[:pick.randint(0, len(counts))])))
@@ -629,6 +873,128 @@ class Readme(Case):
         status, told, _ = run("tell", self.folder, told=program("walk", self.folder))
         self.assertEqual(status, 1)
         self.shows(told)
+
+
+    def test_an_amended_stove(self):
+        amended = ROOT / "examples/amended"
+        text = (amended / "kitchen.toml").read_text()
+        self.shows(text[text.index("like = "):text.index("notes = ")])
+        status, told, wrong = run("tell", amended, told=program("walk", amended))
+        self.assertEqual((status, wrong), (0, ""))
+        self.shows(told)
+
+    def test_an_amendment_of_no_move(self):
+        for name in ["stove", "amended"]:
+            copy = self.folder / "examples" / name
+            copy.mkdir(parents=True)
+            text = (ROOT / "examples" / name / "kitchen.toml").read_text()
+            (copy / "kitchen.toml").write_text(text.replace("command = 2, withdrawn", "command = 3, withdrawn"))
+        self.assertEqual(run("write", copy), (0, "", ""))
+        status, told, wrong = run("tell", "examples/amended", told="refused 21 98: and so on", cwd=self.folder)
+        self.assertEqual((status, wrong), (1, ""))
+        self.shows(told)
+        self.assertEqual(program("walk", copy), "refused 21 98\n")
+
+
+class Clean(Case):
+    """The clean sheet of a folder, in a file of its own."""
+
+    def setUp(self):
+        super().setUp()
+        self.clean = self.folder.parent / "clean.bin"
+
+    def refused(self, status, told):
+        """No clean sheet is written, and this is told; all else stays."""
+        before = sides(self.folder)
+        said = run("clean", self.folder, self.clean)
+        self.assertEqual((said[0], said[1], self.here(said[2])), (status, "", f"kitchen: {told}\n"))
+        self.assertEqual((sides(self.folder), self.clean.exists()), (before, False))
+
+    def test_a_sheet_without_amendments_is_clean(self):
+        files = self.written()
+        before = sides(self.folder)
+        self.assertEqual(run("clean", self.folder, self.clean), (0, "", ""))
+        self.assertEqual((self.clean.read_bytes(), sides(self.folder)), (files["sheet.bin"], before))
+        self.assertEqual(run("clean", self.folder, "clean.bin", cwd=self.folder), (0, "", ""))
+        self.assertEqual(sides(self.folder), {**before, "clean.bin": SHEET})
+
+    def test_an_amended_sheet(self):
+        self.put(AMENDED)
+        self.assertEqual(run("clean", self.folder, self.clean), (0, "", ""))
+        self.assertEqual(self.clean.read_bytes(), CLEAN_SHEET)
+        self.assertEqual(set(sides(self.folder)), {"kitchen.toml"})
+
+    def test_the_clean_text_writes_it(self):
+        for seed in range(4):
+            moves, amendments, standing = random_amendments(random.Random(seed))
+            self.put(amended_text(AB, moves, amendments))
+            self.assertEqual(run("clean", self.folder, self.clean), (0, "", ""))
+            self.assertEqual(self.clean.read_bytes(), self.written(text_of(AB, standing))["sheet.bin"], seed)
+            self.clean.unlink()
+
+    def test_the_clean_sheet_is_read_by_the_names_of_the_text(self):
+        self.put(AMENDED)
+        self.assertEqual(run("clean", self.folder, self.folder / "sheet.bin"), (0, "", ""))
+        status, text, wrong = run("read", self.folder)
+        self.assertEqual((status, wrong), (0, ""))
+        self.assertEqual(tomllib.loads(text)["moves"][2], {
+            "machine": "burner", "from": "off", "to": "lit", "command": 1, "needs": {"board": "on", "fan": "on"}})
+        self.assertNotIn("amendments", text)
+
+    def test_what_the_library_refuses_has_no_clean_sheet(self):
+        self.put(text_of(AB, [step(), step()]))
+        self.refused(1, "refused 8 at move 1, a: m0 to m1 (command 1), FOLDER/kitchen.toml:8: "
+                        "command 0, or a move with machine, mode and command of an earlier one, be that withdrawn or not")
+        self.put(text_of([], []))
+        self.refused(1, "refused 4 at the end of the sheet, FOLDER/kitchen.toml: a machine behind a move, a 33rd machine, "
+                        "a 251st move, or a first move or end without a machine; withdrawn moves count")
+
+    def test_amendments_that_the_library_refuses_have_no_clean_sheet(self):
+        self.put(amended_text(AB, BACK, [gone(), gone()]))
+        self.refused(1, f"refused 21 at amendment 1, a: from m0 (command 1) withdrawn, FOLDER/kitchen.toml:13: {ABSENT}")
+        self.put(amended_text(AB, BACK, [step()] * 65))
+        self.refused(1, f"refused 21 at amendment 64, a: m0 to m1 (command 1), FOLDER/kitchen.toml:76: {ABSENT}")
+
+    def test_a_faulty_text_has_no_clean_sheet(self):
+        self.put(AMENDED.replace("withdrawn = true", 'withdrawn = true, to = "off"'))
+        self.refused(1, "FOLDER/kitchen.toml:25: a withdrawn move has no to")
+
+    def test_nothing_is_overwritten(self):
+        self.written()
+        for name in ["sheet.bin", "kitchen.toml", "README.md", "."]:
+            before = sides(self.folder)
+            status, out, wrong = run("clean", self.folder, f"{self.folder}/{name}")
+            told = f"kitchen: FOLDER/{name} is there already: name a new file\n"
+            self.assertEqual((status, out, self.here(wrong)), (2, "", told))
+            self.assertEqual(sides(self.folder), before)
+        (self.folder / "link").symlink_to("nowhere")
+        self.assertEqual(run("clean", self.folder, self.folder / "link")[0], 2)
+        self.assertFalse((self.folder / "nowhere").exists())
+
+    def test_where_no_file_can_stand(self):
+        self.put()
+        for path, told in [("", '"" names no file'), ("new/", '"new/" names no file'), ("new/c.bin", "no folder for new/c.bin"),
+                           ("kitchen.toml/c.bin", "no folder for kitchen.toml/c.bin")]:
+            self.assertEqual(run("clean", self.folder, path, cwd=self.folder), (2, "", f"kitchen: {told}\n"))
+        limit = lambda: resource.setrlimit(resource.RLIMIT_FSIZE, (10, 10))
+        status, out, wrong = run("clean", self.folder, self.clean, preexec_fn=limit)
+        self.assertEqual((status, out, "Traceback" in wrong, self.clean.exists()), (2, "", False, False), wrong)
+        self.assertEqual(set(sides(self.folder)), {"kitchen.toml"})
+
+    def test_another_library_is_not_trusted(self):
+        """One that reads something else in every sheet, and two that cannot work."""
+        self.put(AMENDED)
+        copy = self.folder.parent / "copy"
+        for name in ["names", "docs"]:
+            shutil.copytree(ROOT / name, copy / name)
+        shutil.copy(ROOT / "kitchen", copy)
+        unasked = "the library could not be asked what it reads in the sheet"
+        for script, told in [('wc -c <"$1/sheet.bin"', "the library reads something else in the clean sheet, so it is not written"),
+                             ("exit 2", unasked), ("exit 0", unasked)]:
+            (copy / "show").write_text(f"#!/bin/sh\n{script}\n")
+            (copy / "show").chmod(0o755)
+            ran = run("clean", self.folder, self.clean, root=copy)
+            self.assertEqual((*ran, self.clean.exists()), (2, "", f"kitchen: {told}\n", False))
 
 
 class Files(Case):
@@ -691,7 +1057,7 @@ class Files(Case):
         self.assertEqual(bytes_in(self.folder), FILES)
 
     def test_what_it_cannot_work_with(self):
-        for arguments in [[], ["write"], ["walk", "."], ["tell", ".", "."], ["read"]]:
+        for arguments in [[], ["write"], ["walk", "."], ["tell", ".", "."], ["read"], ["clean", "."], ["clean", ".", "a", "b"]]:
             status, out, wrong = run(*arguments)
             self.assertEqual((status, out, "kitchen tell FOLDER" in wrong), (2, "", True))
         self.assertEqual(run("check", self.folder)[0], 2)

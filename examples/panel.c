@@ -139,6 +139,7 @@ static const struct cause {
     [18] = {MACHINE, "its group could be stranded on the way"},
     [19] = {MACHINE, "the wishes leave it no mode"},
     [20] = {NOWHERE, "the text is no sheet's picture"},
+    [21] = {BYTE, "an amendment of no standing move or one too many, or a move behind one"},
 };
 
 /* The place that stands for a wrong length. */

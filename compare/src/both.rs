@@ -3,7 +3,7 @@
 use crate::command::{Command, Effect, Next};
 use crate::library::Library;
 use crate::version::{Rust, Version};
-use crate::{pictures, walk as walks, Reply};
+use crate::{clean as cleaning, pictures, walk as walks, Reply};
 use std::fmt::Debug;
 
 /// What both versions gave.
@@ -48,31 +48,48 @@ pub fn apply(sheet: &[u8], state: &mut [u8], command: Command) -> Reply<Effect> 
     reply.map(Effect::of_value)
 }
 
+/// What both versions write into a buffer; answers how many bytes these are.
 #[track_caller]
-pub fn join(sheet: &[u8], wishes: &[u8], out: &mut [u8]) -> Reply<usize> {
+fn written(
+    out: &mut [u8],
+    by_rust: impl FnOnce(&mut [u8]) -> Reply<u32>,
+    by_library: impl FnOnce(&mut [u8]) -> Reply<u32>,
+) -> Reply<usize> {
     let mut other = out.to_vec();
-    let by_library = Library::join(sheet, wishes, &mut other);
-    let length = same(Rust::join(sheet, wishes, out), by_library);
+    let length = by_library(&mut other);
+    let length = same(by_rust(out), length);
     same(&*out, &other);
     length.map(|length| length as usize)
+}
+
+#[track_caller]
+pub fn join(sheet: &[u8], wishes: &[u8], out: &mut [u8]) -> Reply<usize> {
+    let by_library = |out: &mut [u8]| Library::join(sheet, wishes, out);
+    written(out, |out| Rust::join(sheet, wishes, out), by_library)
 }
 
 #[track_caller]
 pub fn graph(sheet: &[u8], out: &mut [u8]) -> Reply<usize> {
-    let mut other = out.to_vec();
-    let by_library = Library::graph(sheet, &mut other);
-    let length = same(Rust::graph(sheet, out), by_library);
-    same(&*out, &other);
-    length.map(|length| length as usize)
+    let by_library = |out: &mut [u8]| Library::graph(sheet, out);
+    written(out, |out| Rust::graph(sheet, out), by_library)
 }
 
 #[track_caller]
 pub fn graph_read(text: &[u8], out: &mut [u8]) -> Reply<usize> {
-    let mut other = out.to_vec();
-    let by_library = Library::graph_read(text, &mut other);
-    let length = same(Rust::graph_read(text, out), by_library);
-    same(&*out, &other);
-    length.map(|length| length as usize)
+    let by_library = |out: &mut [u8]| Library::graph_read(text, out);
+    written(out, |out| Rust::graph_read(text, out), by_library)
+}
+
+#[track_caller]
+pub fn clean(sheet: &[u8], out: &mut [u8]) -> Reply<usize> {
+    let by_library = |out: &mut [u8]| Library::clean(sheet, out);
+    written(out, |out| Rust::clean(sheet, out), by_library)
+}
+
+#[track_caller]
+pub fn own_clean(sheet: &[u8]) -> Reply<Vec<u8>> {
+    let by_library = cleaning::own_clean::<Library>(sheet);
+    same(cleaning::own_clean::<Rust>(sheet), by_library)
 }
 
 #[track_caller]

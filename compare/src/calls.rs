@@ -49,6 +49,8 @@ pub struct Lent {
     pub drawn: Slot,
     pub text: Slot,
     pub shown: Slot,
+    /// Room for the clean sheet.
+    pub cleaned: Slot,
 }
 
 impl Lent {
@@ -69,7 +71,8 @@ impl Lent {
             out: none.clone(),
             drawn: none.clone(),
             text: none.clone(),
-            shown: none,
+            shown: none.clone(),
+            cleaned: none,
         }
     }
 
@@ -91,7 +94,7 @@ pub struct Call {
     pub library: Side,
 }
 
-pub const CALLS: [Call; 8] = [
+pub const CALLS: [Call; 9] = [
     Call {
         name: "sheet",
         rust: sheet::<Rust>,
@@ -131,6 +134,11 @@ pub const CALLS: [Call; 8] = [
         name: "graph_read",
         rust: graph_read::<Rust>,
         library: graph_read::<Library>,
+    },
+    Call {
+        name: "clean",
+        rust: clean::<Rust>,
+        library: clean::<Library>,
     },
 ];
 
@@ -179,4 +187,8 @@ fn graph<V: Version>(lent: &mut Lent) -> Reply<u32> {
 
 fn graph_read<V: Version>(lent: &mut Lent) -> Reply<u32> {
     V::graph_read(lent.text.get(), lent.shown.get_mut())
+}
+
+fn clean<V: Version>(lent: &mut Lent) -> Reply<u32> {
+    V::clean(lent.sheet.get(), lent.cleaned.get_mut())
 }

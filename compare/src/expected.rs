@@ -1,11 +1,11 @@
-//! What is expected of commands, goals, tags and edges, straight from the lent
-//! bytes. The tests hold the versions against it.
+//! What is expected of commands, goals, tags, edges and clean sheets, straight from
+//! the lent bytes. The tests hold the versions against it.
 
 use crate::both::{apply, next_command};
 use crate::command::{Command, Effect, Next};
-use crate::records::Records;
+use crate::plain::Plain;
 use crate::walk::bound_of;
-use crate::Reply;
+use crate::{refuse, Reply};
 use std::collections::BTreeSet;
 
 /// Whether a state meets a goal.
@@ -15,29 +15,39 @@ pub fn meets(state: &[u8], goal: &[u8]) -> bool {
         .all(|(mask, cell)| mask >> cell[0] & 1 == 1)
 }
 
-/// The bodies of a sheet's moves, in their order.
-fn moves(sheet: &[u8]) -> impl Iterator<Item = &[u8]> {
-    let mut records = Records::new(sheet);
-    let records = std::iter::from_fn(move || records.take());
-    records
-        .filter(|record| record.kind == 2)
-        .map(|record| record.body)
+/// The bodies of the standing moves of a sheet that passes, by their numbers.
+fn moves(sheet: &[u8]) -> Vec<Vec<u8>> {
+    Plain::read(sheet).expect("a sheet that passes").moves
 }
 
 /// For each group that a move of another names, the two numbers, needed group
 /// first; in order, each pair once.
 pub fn named_outside(sheet: &[u8], groups: &[u8]) -> Vec<u8> {
     let group = |machine: u8| groups[machine as usize];
-    let named = |body: &[u8]| {
+    let named = |body: Vec<u8>| {
         let target = group(body[0]);
         let pairs = body[4..].chunks(2).map(|guard| [group(guard[0]), target]);
         pairs.collect::<Vec<_>>()
     };
-    let pairs: BTreeSet<_> = moves(sheet).flat_map(named).collect();
+    let pairs: BTreeSet<_> = moves(sheet).into_iter().flat_map(named).collect();
     let outside = pairs
         .into_iter()
         .filter(|[source, target]| source != target);
     outside.flatten().collect()
+}
+
+/// What cleaning a sheet into a buffer replies, and the buffer after it.
+pub fn cleaned(sheet: &[u8], room: &[u8]) -> (Reply<usize>, Vec<u8>) {
+    match Plain::read(sheet).map(|plain| plain.clean()) {
+        Err(refusal) => (Err(refusal), room.to_vec()),
+        Ok(clean) if clean.len() > room.len() => (refuse(12, 0), room.to_vec()),
+        Ok(clean) => (Ok(clean.len()), over(&clean, room)),
+    }
+}
+
+/// Bytes with others in the place of their front.
+fn over(front: &[u8], bytes: &[u8]) -> Vec<u8> {
+    [front, &bytes[front.len()..]].concat()
 }
 
 /// How tags change a reply, given the one with all tags lifted: 13 for a tag byte,
@@ -75,11 +85,11 @@ pub fn effect(sheet: &[u8], state: &[u8], command: Command) -> (Effect, Vec<u8>)
         .filter(|(_, body)| acts(body, state, command))
         .collect();
     let mut after = state.to_vec();
-    match acting[..] {
+    match &acting[..] {
         [] => (Effect::Nothing, after),
         [(number, body)] => {
             after[2 * body[0] as usize] = body[2];
-            (Effect::Move(number), after)
+            (Effect::Move(*number), after)
         }
         _ => panic!("{} moves act at once", acting.len()),
     }

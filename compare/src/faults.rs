@@ -1,4 +1,5 @@
-//! Faulty sheets: for each cause from 1 to 8 one or more, with its place.
+//! Faulty sheets: for each cause from 1 to 8 one or more, with its place; then the
+//! same of their tails, and 21.
 
 use crate::samples::{stove, stove_records, Builder};
 
@@ -13,6 +14,8 @@ pub fn faulty_sheets() -> Vec<Faulty> {
         moves(),
         guards(),
         commands(),
+        tails(),
+        amendments(),
     ]
     .concat()
 }
@@ -167,6 +170,101 @@ fn commands() -> Vec<Faulty> {
             stove_records().step([2, 2, 0, 3], &[]).end(),
             8,
             90,
+        ),
+    ]
+}
+
+/// Two machines and three moves, of which the first is replaced: 46 bytes, the last
+/// ten of them the amendment.
+fn amended() -> Builder {
+    Builder::new()
+        .machine(3, 3)
+        .machines(1, 2)
+        .step([0, 0, 1, 5], &[])
+        .step([0, 1, 0, 5], &[])
+        .step([1, 0, 1, 5], &[])
+        .replace([0, 0, 1, 5], &[[1, 1]])
+}
+
+/// Records that are refused behind it: a name, kind, body and number.
+const LATE: [(&str, u16, &[u8], u32); 29] = [
+    ("tail: kind 6", 6, &[0, 0, 5], 2),
+    ("tail: high byte of kind 4", 0x0104, &[0, 0, 1, 5], 2),
+    ("tail: high byte of kind 5", 0x0105, &[0, 0, 5], 2),
+    ("tail: short machine", 1, &[2], 2),
+    ("tail: short move", 2, &[0, 0, 5], 2),
+    ("tail: end with a body", 3, &[0], 2),
+    ("replaced by 3 bytes", 4, &[0, 0, 5], 2),
+    ("replaced with half a guard", 4, &[0, 0, 1, 5, 1], 2),
+    ("replaced with nine guards", 4, &[0; 22], 2),
+    ("withdrawn by no byte", 5, &[], 2),
+    ("withdrawn by 2 bytes", 5, &[0, 0], 2),
+    ("withdrawn by 4 bytes", 5, &[0, 0, 1, 5], 2),
+    ("tail: machine", 1, &[2, 3], 4),
+    ("tail: bad machine", 1, &[9, 0], 4),
+    ("replaced from 1 to 1", 4, &[0, 1, 1, 5], 6),
+    ("replaced to out of order", 4, &[0, 1, 2, 5], 6),
+    ("replaced from absent", 4, &[1, 2, 0, 5], 6),
+    ("replaced of machine 32", 4, &[32, 0, 1, 5], 6),
+    ("replaced with its own guard", 4, &[0, 1, 0, 5, 0, 1], 7),
+    ("replaced with command 0", 4, &[0, 1, 0, 0], 8),
+    ("no move to replace", 4, &[0, 1, 0, 6], 21),
+    ("no move to withdraw", 5, &[0, 1, 6], 21),
+    ("machine 32 withdrawn", 5, &[32, 0, 5], 21),
+    ("mode 8 withdrawn", 5, &[0, 8, 5], 21),
+    ("tail: bad move", 2, &[1, 1, 1, 5], 6),
+    ("tail: bad guard", 2, &[1, 1, 0, 5, 1, 1], 7),
+    ("tail: command 0", 2, &[1, 1, 0, 0], 8),
+    ("tail: move sent again", 2, &[1, 0, 1, 5], 8),
+    ("tail: move", 2, &[1, 1, 0, 5], 21),
+];
+
+fn tails() -> Vec<Faulty> {
+    let late = |&(name, kind, body, number)| {
+        let sheet: Builder = amended().record(kind, body);
+        (name, sheet.end(), number, 46)
+    };
+    let whole = amended().end();
+    let more = [&whole[..], &[0]].concat();
+    let others = [
+        ("tail: no end", whole[..46].to_vec(), 1, 46),
+        ("tail: head cut", whole[..38].to_vec(), 1, 36),
+        ("tail: body cut", whole[..45].to_vec(), 1, 36),
+        ("tail: one byte more", more, 3, 50),
+    ];
+    LATE.iter().map(late).chain(others).collect()
+}
+
+/// Tails of which more than the last record matters.
+fn amendments() -> Vec<Faulty> {
+    let gone = || amended().withdraw([0, 1, 5]);
+    let twice = gone().withdraw([0, 1, 5]);
+    let replaced = gone().replace([0, 1, 0, 5], &[]);
+    let sent = gone().step([0, 1, 0, 5], &[]);
+    let first = Builder::new;
+    let second = || Builder::new().machines(1, 2);
+    vec![
+        ("withdrawn twice", twice.end(), 21, 53),
+        ("replaced when withdrawn", replaced.end(), 21, 53),
+        ("sent when withdrawn", sent.end(), 8, 53),
+        (
+            "first: replaced",
+            first().replace([0, 0, 1, 1], &[]).end(),
+            6,
+            0,
+        ),
+        ("first: withdrawn", first().withdraw([0, 0, 1]).end(), 21, 0),
+        (
+            "no moves: replaced",
+            second().replace([0, 0, 1, 1], &[]).end(),
+            21,
+            6,
+        ),
+        (
+            "no moves: withdrawn",
+            second().withdraw([0, 0, 1]).end(),
+            21,
+            6,
         ),
     ]
 }

@@ -2,16 +2,19 @@
 //! kitchen.
 
 use crate::calls::{Call, Lent, Slot};
+use crate::clean::own_clean;
 use crate::command::Command;
 use crate::graph::MAX_READ;
 use crate::join::{in_one_slice, MAX_GOALS};
 use crate::pictures::{own_text, Drawing};
 use crate::plan::MIN_SCRATCH;
 use crate::random::{self, Random};
+use crate::records::Records;
 use crate::samples::{
-    blocks, chain, dials, eight_names, fullest, one_way, stove, two_slots, Builder,
+    blocks, chain, dials, eight_names, fullest, fullest_replaced, fullest_withdrawn, one_way,
+    stove, two_slots, Builder,
 };
-use crate::sheet::{Sheet, MAX_MACHINES, MAX_MOVES};
+use crate::sheet::{Sheet, MAX_AMENDMENTS, MAX_MACHINES, MAX_MOVES, MOVE, REPLACEMENT};
 use crate::state::{set_mode, tagged, untagged};
 use crate::version::{Rust, Version};
 use crate::walk::own_plan;
@@ -83,6 +86,7 @@ pub fn inputs() -> Vec<Input> {
     inputs.extend(eight_wishes());
     inputs.extend(crowded().map(|(name, sheet)| Input::new(name, &sheet).only(&["sheet"])));
     inputs.extend(pictures());
+    inputs.extend(amended());
     inputs
 }
 
@@ -189,11 +193,32 @@ fn pictures() -> [Input; 3] {
     ]
 }
 
+/// As many amendments as there may be: the fullest sheet with moves replaced, so
+/// that no file is longer, or withdrawn, and the kitchen with moves replaced.
+fn amended() -> [Input; 3] {
+    let calls = ["sheet", "plan", "next", "apply", "clean"].as_slice();
+    [
+        Input::new("fullest-replaced", &fullest_replaced()).only(calls),
+        Input::new("fullest-withdrawn", &fullest_withdrawn()).only(calls),
+        Input::new("kitchen-replaced", &kitchen_replaced()).only(calls),
+    ]
+}
+
+/// The kitchen with the first moves replaced by themselves.
+fn kitchen_replaced() -> Vec<u8> {
+    let mut records = Records::new(KITCHEN);
+    let records = std::iter::from_fn(|| records.take());
+    let moves = records.filter(|record| record.kind == MOVE);
+    let again = |sheet: Builder, body| sheet.record(REPLACEMENT, body);
+    let bodies = moves.map(|record| record.body).take(MAX_AMENDMENTS);
+    bodies.fold(Builder::reopened(KITCHEN), again).end()
+}
+
 /// A sheet with its own plan, or zeros as long where there is none, every
 /// machine in mode 0, untagged and wanted in mode 1, the command of the first
 /// move, a second goal to be joined: mode 0 or 1 for the first half of the
-/// machines; and the text of its picture, with buffers for this and for what it
-/// says.
+/// machines; and the text of its picture, with buffers for this, for what it says
+/// and for the clean sheet.
 pub fn prepared(bytes: &[u8]) -> Lent {
     let sheet = Sheet::read(bytes).expect("a sheet");
     let length = Rust::plan_length(bytes).unwrap_or(0);
@@ -201,6 +226,7 @@ pub fn prepared(bytes: &[u8]) -> Lent {
     let other = vec![3; sheet.machines() / 2];
     let first = sheet.step(0);
     let text = own_text::<Rust>(bytes).expect("a text");
+    let clean = own_clean::<Rust>(bytes).expect("a clean sheet");
     Lent {
         plan: Slot::new(&own_plan::<Rust>(bytes).unwrap_or(vec![0; length as usize])),
         scratch: Slot::new(&[0; MIN_SCRATCH]),
@@ -215,6 +241,7 @@ pub fn prepared(bytes: &[u8]) -> Lent {
         drawn: Slot::new(&vec![0; text.len()]),
         text: Slot::new(&text),
         shown: Slot::new(&[0; MAX_READ]),
+        cleaned: Slot::new(&vec![0; clean.len()]),
         ..Lent::sheet(bytes)
     }
 }

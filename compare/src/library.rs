@@ -43,6 +43,7 @@ extern "C" {
     ) -> u64;
     fn duty_graph(sheet: *const u8, n: usize, out: *mut u8, out_n: usize) -> u64;
     fn duty_graph_read(text: *const u8, n: usize, out: *mut u8, out_n: usize) -> u64;
+    fn duty_clean(sheet: *const u8, n: usize, out: *mut u8, out_n: usize) -> u64;
 }
 
 /// Splits a reply word: the refusal's number above, its place or the value below.
@@ -126,5 +127,9 @@ impl Version for Library {
 
     fn graph_read(text: &[u8], out: &mut [u8]) -> Reply<u32> {
         split(unsafe { duty_graph_read(text.as_ptr(), text.len(), out.as_mut_ptr(), out.len()) })
+    }
+
+    fn clean(sheet: &[u8], out: &mut [u8]) -> Reply<u32> {
+        split(unsafe { duty_clean(sheet.as_ptr(), sheet.len(), out.as_mut_ptr(), out.len()) })
     }
 }

@@ -4,7 +4,7 @@
 use crate::calls::{Lent, Slot};
 use crate::graph::{MAX_READ, MAX_TEXT};
 use crate::groups::Groups;
-use crate::random::Random;
+use crate::random::{room_for, Random};
 use crate::samples::Builder;
 use crate::sheet::{Sheet, MAX_MACHINES};
 use crate::version::{Rust, Version};
@@ -261,25 +261,13 @@ fn swap_lines(random: &mut Random, text: &mut Vec<u8>) {
     *text = lines.concat();
 }
 
-/// A buffer of other bytes for an output: as long, longer, or too short.
-fn room(random: &mut Random, output: usize) -> Vec<u8> {
-    let length = match random.below(8) {
-        0 => 0,
-        1 => output.saturating_sub(1),
-        2 => random.below(output + 1),
-        3 => output + 1 + random.below(20),
-        _ => output,
-    };
-    random.bytes(length)
-}
-
 /// Lends what the calls of the picture take beside the sheet.
 pub fn lend(random: &mut Random, lent: &mut Lent) {
     let bytes = lent.sheet.get().to_vec();
     let own = own_text::<Rust>(&bytes).unwrap_or_default();
     let text = text(random, Sheet::read(&bytes).ok().as_ref());
     let says = shown::<Rust>(&text).unwrap_or_default();
-    lent.drawn = Slot::new(&room(random, own.len()));
+    lent.drawn = Slot::new(&room_for(random, own.len()));
     lent.text = Slot::new(&text);
-    lent.shown = Slot::new(&room(random, says.len()));
+    lent.shown = Slot::new(&room_for(random, says.len()));
 }

@@ -2,8 +2,10 @@
 
 use crate::bits;
 use crate::calls::{Lent, Slot};
+use crate::clean::own_clean;
 use crate::command::Command;
 use crate::definition::Reading;
+use crate::draft::Draft;
 use crate::groups::{Groups, MAX_GROUP_MODES};
 use crate::join::in_one_slice;
 use crate::pictures;
@@ -61,7 +63,7 @@ impl Random {
     }
 
     /// Some of the set bits of a mask, at least one.
-    fn some_of(&mut self, mask: u8) -> u8 {
+    pub fn some_of(&mut self, mask: u8) -> u8 {
         loop {
             let some = self.byte() & mask;
             if some != 0 {
@@ -71,7 +73,7 @@ impl Random {
     }
 
     /// One set bit's number.
-    fn one_of(&mut self, mask: u8) -> u8 {
+    pub fn one_of(&mut self, mask: u8) -> u8 {
         loop {
             let bit = self.below(8) as u8;
             if mask >> bit & 1 == 1 {
@@ -81,133 +83,37 @@ impl Random {
     }
 }
 
-/// The character of one random sheet.
-struct Shape {
-    machines: usize,
-    most_modes: usize,
-    moves: usize,
-    most_guards: usize,
-    /// One guard in so many may look at a later machine, so that groups arise.
-    cyclic: usize,
-    /// How far off the machines are that a guard looks at.
-    span: usize,
-    /// One machine in so many has failed modes.
-    failed: usize,
-    /// Machines of eight modes of which each two need each other.
-    paired: bool,
-}
-
-impl Shape {
-    fn new(random: &mut Random) -> Self {
-        let small = !random.once_in(3);
-        let most = if small { 6 } else { 32 };
-        let machines = 1 + random.below(most);
-        let moves = match random.below(8) {
-            0 => 250,
-            1 => random.below(251),
-            _ => random.below(machines * 8).min(250),
-        };
-        Shape {
-            machines,
-            most_modes: 1 + random.below(8),
-            moves,
-            most_guards: [1, 2, 3, 8][random.below(4)],
-            cyclic: [2, 4, 12, 60, 10_000][random.below(5)],
-            span: 1 + random.below(machines),
-            failed: [3, 10, 10_000][random.below(3)],
-            paired: random.once_in(20),
-        }
-    }
-}
-
-/// A sheet that passes refusals 1 to 8.
+/// A sheet that passes, without amendments.
 pub fn sheet(random: &mut Random) -> Vec<u8> {
-    let shape = Shape::new(random);
-    let mut sheet = Builder::new();
-    let mut machines = Vec::new();
-    for _ in 0..shape.machines {
-        let modes = if shape.paired {
-            8
-        } else {
-            1 + random.below(shape.most_modes) as u8
-        };
-        let all = u8::MAX >> (8 - modes);
-        let live = if random.once_in(shape.failed) {
-            random.some_of(all)
-        } else {
-            all
-        };
-        sheet = sheet.machine(modes, live);
-        machines.push((all, live));
-    }
-    let mut sent = std::collections::HashSet::new();
-    // Some tries end in a move that was there, so there are more of them.
-    for _ in 0..4 * shape.moves {
-        let machine = random.below(shape.machines);
-        let live = machines[machine].1;
-        if live.count_ones() < 2 || sent.len() == shape.moves {
-            continue;
-        }
-        let from = random.one_of(live);
-        let to = random.one_of(live & !(1 << from));
-        let command = if random.once_in(4) {
-            random.byte()
-        } else {
-            1 + to
-        };
-        if command != 0 && sent.insert((machine, from, command)) {
-            let guards = guards(random, &shape, &machines, machine);
-            sheet = sheet.step([machine as u8, from, to, command], &guards);
-        }
-    }
-    sheet.end()
+    Draft::new(random).end()
 }
 
-fn guards(
-    random: &mut Random,
-    shape: &Shape,
-    machines: &[(u8, u8)],
-    machine: usize,
-) -> Vec<[u8; 2]> {
-    let mut chosen = std::collections::BTreeMap::new();
-    for _ in 0..random.below(shape.most_guards + 1) {
-        let other = neighbour(random, shape, machine);
-        if let Some(&(all, live)) = machines.get(other) {
-            let among = if random.once_in(16) { all } else { live };
-            // Wide masks are easy to meet; most are.
-            let some = random.some_of(among) | (random.some_of(among) & random.byte());
-            chosen.insert(other as u8, some);
-        }
-    }
-    chosen
-        .into_iter()
-        .map(|(other, allowed)| [other, allowed])
-        .collect()
+/// A sheet that passes; if it has moves, with amendments.
+pub fn amended_sheet(random: &mut Random) -> Vec<u8> {
+    let mut draft = Draft::new(random);
+    draft.amend(random);
+    draft.end()
 }
 
-/// The machine that a guard looks at; there may be no such machine.
-fn neighbour(random: &mut Random, shape: &Shape, machine: usize) -> usize {
-    let off = 1 + random.below(shape.span);
-    if shape.paired {
-        machine ^ 1
-    } else if random.once_in(shape.cyclic) {
-        machine + off
-    } else {
-        machine.wrapping_sub(off)
+/// Bytes lent as a sheet with amendments, many of which have no place there; at
+/// times the tail is damaged, cut or extended.
+pub fn oddly_amended(random: &mut Random) -> Vec<u8> {
+    let mut draft = Draft::new(random);
+    let front = draft.length();
+    draft.amend_oddly(random);
+    let mut bytes = draft.end();
+    if random.once_in(3) {
+        maul(random, &mut bytes, front);
     }
+    bytes
 }
 
-/// A sheet that passes refusals 1 to 8, in which some machines have no moves: a
-/// move that needs such a machine in another mode is never usable.
+/// A sheet that passes, in which some machines have no moves: a move that needs such
+/// a machine in another mode is never usable.
 pub fn idle_sheet(random: &mut Random) -> Vec<u8> {
-    let bytes = sheet(random);
-    idle(random, &bytes)
-}
-
-/// The same sheet without the moves of some machines.
-fn idle(random: &mut Random, sheet: &[u8]) -> Vec<u8> {
+    let sheet = sheet(random);
     let idle = random.word() & random.word();
-    let mut records = Records::new(sheet);
+    let mut records = Records::new(&sheet);
     let mut kept = Builder::new();
     while let Some(record) = records.take() {
         if record.kind != MOVE || idle >> record.body[0] & 1 == 0 {
@@ -217,17 +123,18 @@ fn idle(random: &mut Random, sheet: &[u8]) -> Vec<u8> {
     kept.unfinished()
 }
 
-/// Bytes lent as a sheet: whole, damaged, cut, extended, noise, or without the
-/// moves of some machines.
+/// Bytes lent as a sheet, at times with amendments, without the moves of some
+/// machines, or noise; half of them are damaged, cut or extended.
 pub fn sheet_bytes(random: &mut Random) -> Vec<u8> {
-    let mut bytes = sheet(random);
-    match random.below(8) {
-        0 | 1 => damage(random, &mut bytes),
-        2 => bytes.truncate(random.below(bytes.len())),
-        3 => bytes.extend(random.byte_run(9)),
-        4 => bytes = noise(random),
-        5 => bytes = idle(random, &bytes),
-        _ => {}
+    let mut bytes = match random.below(8) {
+        0 => amended_sheet(random),
+        1 => oddly_amended(random),
+        2 => idle_sheet(random),
+        3 => noise(random),
+        _ => sheet(random),
+    };
+    if random.once_in(2) {
+        maul(random, &mut bytes, 0);
     }
     bytes
 }
@@ -240,8 +147,17 @@ impl Random {
     }
 }
 
+/// Damages, cuts or extends bytes, all behind a place.
+fn maul(random: &mut Random, bytes: &mut Vec<u8>, from: usize) {
+    match random.below(4) {
+        0 | 1 => damage(random, &mut bytes[from..]),
+        2 => bytes.truncate(from + random.below(bytes.len() - from + 1)),
+        _ => bytes.extend(random.byte_run(9)),
+    }
+}
+
 /// Changes one byte.
-fn damage(random: &mut Random, bytes: &mut [u8]) {
+pub fn damage(random: &mut Random, bytes: &mut [u8]) {
     if !bytes.is_empty() {
         let at = random.below(bytes.len());
         let small = random.below(12) as u8;
@@ -257,7 +173,7 @@ fn noise(random: &mut Random) -> Vec<u8> {
     }
     let mut bytes = Builder::new();
     for _ in 0..random.below(12) {
-        let kind = [1, 1, 2, 2, 3, 9][random.below(6)];
+        let kind = [1, 1, 2, 2, 3, 4, 5, 9][random.below(8)];
         let length = if kind == 1 { 2 } else { random.below(12) };
         let body: Vec<u8> = (0..length).map(|_| random.byte() % 5).collect();
         bytes = bytes.record(kind, &body);
@@ -392,6 +308,18 @@ fn room(random: &mut Random, sheet: &Sheet) -> Vec<u8> {
         0 => random.below(machines),
         1 => random.below(MAX_MACHINES + 8),
         _ => machines,
+    };
+    random.bytes(length)
+}
+
+/// A buffer of other bytes for an output: as long, longer, or too short.
+pub fn room_for(random: &mut Random, output: usize) -> Vec<u8> {
+    let length = match random.below(8) {
+        0 => 0,
+        1 => output.saturating_sub(1),
+        2 => random.below(output + 1),
+        3 => output + 1 + random.below(20),
+        _ => output,
     };
     random.bytes(length)
 }
@@ -585,6 +513,12 @@ pub fn lent(random: &mut Random) -> Lent {
     lent_with(random, &bytes)
 }
 
+/// Everything lent with a sheet that has amendments.
+pub fn amended_lent(random: &mut Random) -> Lent {
+    let bytes = amended_sheet(random);
+    lent_with(random, &bytes)
+}
+
 /// Everything lent with a sheet in which some machines have no moves.
 pub fn idle_lent(random: &mut Random) -> Lent {
     let bytes = idle_sheet(random);
@@ -601,6 +535,8 @@ fn lent_with(random: &mut Random, bytes: &[u8]) -> Lent {
         }
     }
     pictures::lend(random, &mut lent);
+    let clean = own_clean::<Rust>(bytes).unwrap_or_default();
+    lent.cleaned = Slot::new(&room_for(random, clean.len()));
     lent
 }
 

@@ -17,6 +17,11 @@ impl<'a> Records<'a> {
         Records { file, position: 0 }
     }
 
+    /// Reads on from a place where a record begins.
+    pub fn at(file: &'a [u8], position: usize) -> Self {
+        Records { file, position }
+    }
+
     /// Where the next record begins or would begin.
     pub fn position(&self) -> usize {
         self.position

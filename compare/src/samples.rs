@@ -1,6 +1,7 @@
 //! Sheets made to measure: a builder, the stove, and the extreme ones.
 
-use crate::sheet::{own_slot, MAX_MACHINES, MAX_MOVES};
+use crate::sent::own_slot;
+use crate::sheet::{MAX_AMENDMENTS, MAX_MACHINES, MAX_MOVES};
 
 /// Makes a sheet record by record and checks nothing.
 #[derive(Clone, Default)]
@@ -11,6 +12,12 @@ pub struct Builder {
 impl Builder {
     pub fn new() -> Self {
         Self::default()
+    }
+
+    /// The records of a whole sheet but for its end.
+    pub fn reopened(sheet: &[u8]) -> Self {
+        let bytes = sheet[..sheet.len() - 4].to_vec();
+        Builder { bytes }
     }
 
     pub fn record(mut self, kind: u16, body: &[u8]) -> Self {
@@ -34,6 +41,16 @@ impl Builder {
     /// A move: machine, from, to and command, then its guards.
     pub fn step(self, fields: [u8; 4], guards: &[[u8; 2]]) -> Self {
         self.record(2, &[&fields, guards.as_flattened()].concat())
+    }
+
+    /// Puts a move in the place of the one with its machine, from and command.
+    pub fn replace(self, fields: [u8; 4], guards: &[[u8; 2]]) -> Self {
+        self.record(4, &[&fields, guards.as_flattened()].concat())
+    }
+
+    /// Withdraws the move with this machine, from and command.
+    pub fn withdraw(self, key: [u8; 3]) -> Self {
+        self.record(5, &key)
     }
 
     pub fn end(self) -> Vec<u8> {
@@ -158,16 +175,49 @@ fn circle_guard(machine: u8, number: u8) -> [[u8; 2]; 1] {
 /// The fullest sheet: 32 machines and 250 moves with eight guards each.
 pub fn fullest() -> Vec<u8> {
     let sheet = Builder::new().machines(MAX_MACHINES, 8);
-    let crowded = |sheet: Builder, number: usize| {
-        let (machine, from) = ((number % 32) as u8, (number / 32) as u8);
-        let others = (0..9).map(|other| [other * 3 + machine % 3 + 1, 0xF0 | machine]);
-        let guards: Vec<_> = others.filter(|guard| guard[0] != machine).take(8).collect();
-        sheet.step(
-            [machine, from, (from + 1) % 8, 1 + number as u8 % 200],
-            &guards,
-        )
+    let sent = |sheet: Builder, number| {
+        let (fields, guards) = crowded_move(number, 1);
+        sheet.step(fields, &guards)
     };
-    (0..MAX_MOVES).fold(sheet, crowded).end()
+    (0..MAX_MOVES).fold(sheet, sent).end()
+}
+
+/// A move of the fullest sheet, which leads so many modes further.
+fn crowded_move(number: usize, further: u8) -> ([u8; 4], Vec<[u8; 2]>) {
+    let (machine, from) = ((number % 32) as u8, (number / 32) as u8);
+    let others = (0..9).map(|other| [other * 3 + machine % 3 + 1, 0xF0 | machine]);
+    let guards = others.filter(|guard| guard[0] != machine).take(8);
+    let command = 1 + number as u8 % 200;
+    let fields = [machine, from, (from + further) % 8, command];
+    (fields, guards.collect())
+}
+
+/// The moves of the fullest sheet that are amended where as many are as there may
+/// be: every third one, the last first.
+fn crowded_amended() -> impl Iterator<Item = usize> {
+    let numbers = (0..MAX_MOVES).rev().step_by(3);
+    numbers.take(MAX_AMENDMENTS)
+}
+
+/// The longest file that is accepted: the fullest sheet, and 64 moves of eight
+/// guards each in the places of others.
+pub fn fullest_replaced() -> Vec<u8> {
+    let replaced = |sheet: Builder, number| {
+        let (fields, guards) = crowded_move(number, 2);
+        sheet.replace(fields, &guards)
+    };
+    let sheet = Builder::reopened(&fullest());
+    crowded_amended().fold(sheet, replaced).end()
+}
+
+/// The fullest sheet with 64 moves withdrawn.
+pub fn fullest_withdrawn() -> Vec<u8> {
+    let withdrawn = |sheet: Builder, number| {
+        let ([machine, from, _, command], _) = crowded_move(number, 1);
+        sheet.withdraw([machine, from, command])
+    };
+    let sheet = Builder::reopened(&fullest());
+    crowded_amended().fold(sheet, withdrawn).end()
 }
 
 /// Rings of the given mode counts, each naming all before it, then two-mode

@@ -1,18 +1,30 @@
-//! The sheet: machines with their modes, and the moves between modes.
+//! The sheet: machines with their modes, the moves between modes, and what
+//! amendments make of these.
 
 use crate::records::Records;
+use crate::sent::Sent;
 use crate::{refuse, Reply};
 
 pub const MAX_MACHINES: usize = 32;
 pub const MAX_MOVES: usize = 250;
 pub const MAX_MODES: u8 = 8;
+pub const MAX_AMENDMENTS: usize = 64;
 
-const MACHINE: u16 = 1;
+pub const MACHINE: u16 = 1;
 pub const MOVE: u16 = 2;
 pub const END: u16 = 3;
+pub const REPLACEMENT: u16 = 4;
+pub const WITHDRAWAL: u16 = 5;
 
-/// A sheet that passed refusals 1 to 8. Moves stay in the lent file; the index
-/// knows where each one's body begins.
+/// The bytes of a machine's record.
+const MACHINE_RECORD: usize = 6;
+
+/// Stands where the body of a withdrawn move began; no body begins at byte 0.
+const WITHDRAWN: u16 = 0;
+
+/// A sheet that passed refusals 1 to 8 and 21. Its moves are those that stand at
+/// the end. They stay in the lent file; the index knows where each one's body
+/// begins.
 pub struct Sheet<'a> {
     file: &'a [u8],
     machines: usize,
@@ -46,6 +58,19 @@ impl<'a> Move<'a> {
             guards,
         }
     }
+
+    /// What no two moves that are sent have in common: machine, from mode and
+    /// command.
+    #[inline]
+    fn key(&self) -> [u8; 3] {
+        [self.machine as u8, self.from, self.command]
+    }
+}
+
+/// Whether a body is as long as that of a move, with up to eight guards.
+#[inline]
+fn fits_move(length: usize) -> bool {
+    matches!(length, 4 | 6 | 8 | 10 | 12 | 14 | 16 | 18 | 20)
 }
 
 /// Checks a sheet; the value is 256 × moves + machines.
@@ -67,7 +92,7 @@ impl<'a> Sheet<'a> {
             bodies: [0; MAX_MOVES],
         };
         let mut records = Records::new(file);
-        let mut sent = Sent::new();
+        let mut sent = Sent::empty();
         loop {
             let start = records.position();
             let Some(record) = records.take() else {
@@ -75,13 +100,17 @@ impl<'a> Sheet<'a> {
             };
             let fault = match (record.kind, record.body.len()) {
                 (MACHINE, 2) => sheet.add_machine(record.body[0], record.body[1]),
-                (MOVE, 4 | 6 | 8 | 10 | 12 | 14 | 16 | 18 | 20) => {
+                (MOVE, length) if fits_move(length) => {
                     sheet.add_move(start + 4, Move::of_body(record.body), &mut sent)
                 }
                 (END, 0) if sheet.machines == 0 => Some(4),
                 (END, 0) if records.at_end() => return Ok(sheet),
                 (END, 0) => return refuse(3, records.position()),
-                _ => Some(2),
+                // An amendment, or else refused there at once.
+                _ => {
+                    Tail::new(&mut sheet, &mut sent).read(start)?;
+                    return Ok(sheet);
+                }
             };
             if let Some(number) = fault {
                 return refuse(number, start);
@@ -107,23 +136,32 @@ impl<'a> Sheet<'a> {
         None
     }
 
-    #[inline]
+    #[inline(always)]
     fn add_move(&mut self, body: usize, step: Move, sent: &mut Sent) -> Option<u32> {
         if self.machines == 0 || self.moves == MAX_MOVES {
             return Some(4);
         }
-        if !self.ends_live(&step) {
-            return Some(6);
+        if let Some(number) = self.unfit(&step) {
+            return Some(number);
         }
-        if !self.guards_fit(&step) {
-            return Some(7);
-        }
-        if step.command == 0 || !sent.insert(&step) {
+        if !sent.insert(step.key(), self.moves) {
             return Some(8);
         }
         self.bodies[self.moves] = body as u16;
         self.moves += 1;
         None
+    }
+
+    /// What is wrong with a move by itself, be it sent or put in another's place.
+    #[inline(always)]
+    fn unfit(&self, step: &Move) -> Option<u32> {
+        if !self.ends_live(step) {
+            return Some(6);
+        }
+        if !self.guards_fit(step) {
+            return Some(7);
+        }
+        (step.command == 0).then_some(8)
     }
 
     /// Two different live modes of a machine that is there. Live modes are
@@ -153,6 +191,17 @@ impl<'a> Sheet<'a> {
         true
     }
 
+    /// Leaves out the moves that are withdrawn.
+    fn close_up(&mut self) {
+        let mut standing = 0;
+        for number in 0..self.moves {
+            let body = self.bodies[number];
+            self.bodies[standing] = body;
+            standing += (body != WITHDRAWN) as usize;
+        }
+        self.moves = standing;
+    }
+
     pub fn machines(&self) -> usize {
         self.machines
     }
@@ -176,11 +225,26 @@ impl<'a> Sheet<'a> {
         self.live[machine]
     }
 
+    /// The records of all machines.
+    pub fn machine_records(&self) -> &'a [u8] {
+        &self.file[..MACHINE_RECORD * self.machines]
+    }
+
+    /// The body of a move.
     #[inline]
-    pub fn step(&self, number: usize) -> Move<'a> {
+    fn body(&self, number: usize) -> &'a [u8] {
         let body = self.bodies[number] as usize;
         let length = u16::from_le_bytes([self.file[body - 4], self.file[body - 3]]);
-        Move::of_body(&self.file[body..body + length as usize])
+        &self.file[body..body + length as usize]
+    }
+
+    pub fn bodies(&self) -> impl Iterator<Item = &'a [u8]> + '_ {
+        (0..self.moves).map(|number| self.body(number))
+    }
+
+    #[inline]
+    pub fn step(&self, number: usize) -> Move<'a> {
+        Move::of_body(self.body(number))
     }
 
     pub fn steps(&self) -> impl Iterator<Item = Move<'a>> + '_ {
@@ -188,34 +252,74 @@ impl<'a> Sheet<'a> {
     }
 }
 
-/// The machine, from mode and command of each move so far: an open hash table
-/// at most half full. No key is 0, since no command is.
-struct Sent {
-    slots: [u16; 512],
+/// The tail of a sheet, from the first amendment to the end. Whatever stands behind
+/// that one comes after machines and moves, since it has found a move.
+struct Tail<'s, 'a> {
+    sheet: &'s mut Sheet<'a>,
+    sent: &'s mut Sent,
+    amendments: usize,
 }
 
-/// The slot of a table of 512 where a key is looked for first.
-pub fn own_slot(key: u16) -> usize {
-    ((key as u32).wrapping_mul(0x9E37_79B1) >> 23) as usize
-}
-
-impl Sent {
-    fn new() -> Self {
-        Sent { slots: [0; 512] }
+impl<'s, 'a> Tail<'s, 'a> {
+    fn new(sheet: &'s mut Sheet<'a>, sent: &'s mut Sent) -> Self {
+        let amendments = 0;
+        Tail {
+            sheet,
+            sent,
+            amendments,
+        }
     }
 
-    /// Adds a move; false if one like it was there.
-    #[inline]
-    fn insert(&mut self, step: &Move) -> bool {
-        let key = (step.machine as u16) << 11 | (step.from as u16) << 8 | step.command as u16;
-        let mut slot = own_slot(key);
-        while self.slots[slot] != 0 {
-            if self.slots[slot] == key {
-                return false;
+    /// Reads and checks a tail that begins here, and lets its amendments act.
+    fn read(mut self, start: usize) -> Reply<()> {
+        let mut records = Records::at(self.sheet.file, start);
+        loop {
+            let start = records.position();
+            let Some(record) = records.take() else {
+                return refuse(1, start);
+            };
+            let fault = match (record.kind, record.body) {
+                (REPLACEMENT, body) if fits_move(body.len()) => {
+                    self.replace(start + 4, Move::of_body(body))
+                }
+                (WITHDRAWAL, &[machine, from, command]) => {
+                    self.amend([machine, from, command], WITHDRAWN)
+                }
+                (MOVE, body) if fits_move(body.len()) => {
+                    let step = Move::of_body(body);
+                    let fault = self.sheet.add_move(start + 4, step, self.sent);
+                    fault.or(Some(21))
+                }
+                (MACHINE, [_, _]) => Some(4),
+                (END, []) if records.at_end() => break,
+                (END, []) => return refuse(3, records.position()),
+                _ => Some(2),
+            };
+            if let Some(number) = fault {
+                return refuse(number, start);
             }
-            slot = (slot + 1) % self.slots.len();
         }
-        self.slots[slot] = key;
-        true
+        self.sheet.close_up();
+        Ok(())
+    }
+
+    fn replace(&mut self, body: usize, step: Move) -> Option<u32> {
+        let fault = self.sheet.unfit(&step);
+        fault.or_else(|| self.amend(step.key(), body as u16))
+    }
+
+    /// Gives a standing move another body, or none: 21 if there is no such move, or
+    /// enough was amended.
+    fn amend(&mut self, key: [u8; 3], body: u16) -> Option<u32> {
+        let number = self.sent.find(key);
+        let standing = number.filter(|&number| self.sheet.bodies[number] != WITHDRAWN);
+        match standing {
+            Some(number) if self.amendments < MAX_AMENDMENTS => {
+                self.sheet.bodies[number] = body;
+                self.amendments += 1;
+                None
+            }
+            _ => Some(21),
+        }
     }
 }

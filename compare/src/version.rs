@@ -1,6 +1,7 @@
 //! The versions of the planner, with the calls that each of them has. The
 //! values are those of the C interface.
 
+use crate::clean::clean;
 use crate::command::{apply, next_command, Command, Effect, Next};
 use crate::graph;
 use crate::join::join;
@@ -36,6 +37,10 @@ pub trait Version {
     /// Reads such a text and writes its groups and edges; the value is how many
     /// bytes these are.
     fn graph_read(text: &[u8], out: &mut [u8]) -> Reply<u32>;
+
+    /// Writes the clean sheet of one that may have amendments; the value is its
+    /// length.
+    fn clean(sheet: &[u8], out: &mut [u8]) -> Reply<u32>;
 }
 
 /// The version of this package.
@@ -74,5 +79,9 @@ impl Version for Rust {
 
     fn graph_read(text: &[u8], out: &mut [u8]) -> Reply<u32> {
         graph::read(text, out).map(|length| length as u32)
+    }
+
+    fn clean(sheet: &[u8], out: &mut [u8]) -> Reply<u32> {
+        clean(sheet, out).map(|length| length as u32)
     }
 }

@@ -5,7 +5,8 @@ use duty_compare::both::{apply, check_sheet, next_command, own_plan, plan_length
 use duty_compare::command::{Command, Effect, Next};
 use duty_compare::inputs::crowded;
 use duty_compare::samples::{
-    blocks, circle, dials, eight_names, fullest, longest_plan, product, snake, Builder,
+    blocks, circle, dials, eight_names, fullest, fullest_replaced, fullest_withdrawn, longest_plan,
+    product, snake, Builder,
 };
 use duty_compare::state::untagged;
 use duty_compare::walk::bound_of;
@@ -22,6 +23,18 @@ fn the_fullest_sheet_has_6196_bytes() {
     assert_eq!(check_sheet(&sheet), Ok(256 * 250 + 32));
     assert_eq!(check_sheet(&[&sheet[..], &[0]].concat()), refuse(3, 6196));
     assert_eq!(check_sheet(&sheet[..6195]), refuse(1, 6192));
+}
+
+#[test]
+fn the_longest_file_has_7732_bytes() {
+    let sheet = fullest_replaced();
+    assert_eq!(sheet.len(), 7732);
+    assert_eq!(check_sheet(&sheet), Ok(256 * 250 + 32));
+    assert_eq!(check_sheet(&[&sheet[..], &[0]].concat()), refuse(3, 7732));
+    assert_eq!(check_sheet(&sheet[..7731]), refuse(1, 7728));
+    let short = fullest_withdrawn();
+    assert_eq!(short.len(), 6196 + 64 * 7);
+    assert_eq!(check_sheet(&short), Ok(256 * (250 - 64) + 32));
 }
 
 #[test]

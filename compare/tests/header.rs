@@ -4,15 +4,16 @@
 //! move must be that of applying.
 
 use duty_compare::both::{
-    check_sheet, graph, graph_read, join, next_command, own_plan, plan_length,
+    check_sheet, clean, graph, graph_read, join, next_command, own_plan, plan_length,
 };
+use duty_compare::clean::MAX_CLEAN;
 use duty_compare::command::{Effect, Next};
 use duty_compare::header::{constant, HEADER};
 use duty_compare::join::in_one_slice;
 use duty_compare::pictures::Drawing;
 use duty_compare::plan::MIN_SCRATCH;
 use duty_compare::refuse;
-use duty_compare::samples::{fullest, longest_plan, Builder};
+use duty_compare::samples::{fullest, fullest_replaced, longest_plan, Builder};
 use duty_compare::sheet::MAX_MOVES;
 use std::collections::BTreeMap;
 
@@ -151,7 +152,7 @@ fn declared_in_rust(source: &str) -> Functions {
 
 #[test]
 fn the_header_declares_what_the_source_exports() {
-    assert_eq!(exported(SOURCE).len(), 8);
+    assert_eq!(exported(SOURCE).len(), 9);
     assert_eq!(declared_in_c(HEADER), exported(SOURCE));
 }
 
@@ -227,9 +228,15 @@ fn a_difference_in_the_source_or_in_this_package_is_seen() {
 
 #[test]
 fn the_largest_sizes_are_the_largest() {
-    let sheet = fullest();
+    let sheet = fullest_replaced();
     assert_eq!(sheet.len(), constant("DUTY_SHEET_MAX"));
     assert!(check_sheet(&sheet).is_ok());
+    assert_eq!(MAX_CLEAN, constant("DUTY_CLEAN_MAX"));
+    let mut out = vec![0; MAX_CLEAN];
+    let longest = out.len();
+    assert_eq!(clean(&sheet, &mut out), Ok(longest));
+    assert_eq!(clean(&fullest(), &mut out), Ok(longest));
+    assert_eq!(clean(&sheet, &mut out[1..]), refuse(12, 0));
     let longest = constant("DUTY_PLAN_MAX");
     assert_eq!(plan_length(&longest_plan()), Ok(longest));
     assert_eq!(MIN_SCRATCH, constant("DUTY_SCRATCH"));

@@ -2,14 +2,16 @@
 //! for more random rounds than usual, DUTY_SEED for others.
 
 use duty_compare::calls::{Call, Lent, Slot, CALLS};
+use duty_compare::clean::MAX_CLEAN;
 use duty_compare::command::{Command, Effect};
 use duty_compare::expected::tags_change;
 use duty_compare::faults::faulty_sheets;
 use duty_compare::graph::MAX_TEXT;
 use duty_compare::pictures::own_text;
-use duty_compare::random::{idle_lent, lent, sheet_bytes, Random};
+use duty_compare::random::{amended_lent, idle_lent, lent, sheet_bytes, Random};
 use duty_compare::samples::{
-    blocks, circle, dials, filter, fullest, longest_plan, product, snake, stove, Builder,
+    blocks, circle, dials, filter, fullest, fullest_replaced, fullest_withdrawn, longest_plan,
+    product, snake, stove, stove_records, Builder,
 };
 use duty_compare::shape::Plan;
 use duty_compare::sheet::Sheet;
@@ -85,6 +87,8 @@ fn on_the_cases_and_extreme_sheets() {
         ("five of 64", blocks(5, 0, false)),
         ("2^96 modes", circle(32)),
         ("fullest", fullest()),
+        ("fullest, replaced", fullest_replaced()),
+        ("fullest, withdrawn", fullest_withdrawn()),
         ("longest plan", longest_plan()),
         ("snake", snake()),
         ("bound 65535", product(&[2; 16], 0)),
@@ -94,25 +98,38 @@ fn on_the_cases_and_extreme_sheets() {
         let mut input = Lent::sheet(sheet);
         all_agree(&input, name);
         input.drawn = Slot::new(&[0x69; MAX_TEXT]);
+        input.cleaned = Slot::new(&[0x69; MAX_CLEAN]);
         all_agree(&input, name);
     }
 }
 
 #[test]
-fn on_every_cut_of_the_fullest_sheet() {
-    let sheet = fullest();
+fn on_every_cut_of_the_longest_file() {
+    let sheet = fullest_replaced();
     for length in 0..sheet.len() {
         all_agree(&Lent::sheet(&sheet[..length]), "cut");
     }
 }
 
+/// The stove's sheet, and one in which the fan goes on and off with no board and the
+/// burner is not reset.
 #[test]
 fn on_every_byte_of_the_stove_changed_to_every_value() {
-    for at in 0..stove().len() {
-        for value in 0..=255 {
-            let mut sheet = stove();
-            sheet[at] = value;
-            all_agree(&Lent::sheet(&sheet), "one byte changed");
+    let amended = stove_records()
+        .replace([1, 0, 1, 1], &[[2, 1]])
+        .withdraw([2, 2, 3])
+        .replace([1, 1, 0, 2], &[[2, 1]])
+        .end();
+    for sheet in [stove(), amended] {
+        let mut input = Lent::sheet(&sheet);
+        input.cleaned = Slot::new(&[0x69; 90]);
+        for at in 0..sheet.len() {
+            for value in 0..=255 {
+                let mut changed = sheet.clone();
+                changed[at] = value;
+                input.sheet = Slot::new(&changed);
+                all_agree(&input, "one byte changed");
+            }
         }
     }
 }
@@ -120,7 +137,7 @@ fn on_every_byte_of_the_stove_changed_to_every_value() {
 /// How often each reply came up, over all calls.
 #[derive(Default)]
 struct Tally {
-    refused: [u64; 21],
+    refused: [u64; 22],
     unfit: u64,
     written: u64,
     done: u64,
@@ -134,11 +151,13 @@ struct Tally {
     /// Texts drawn and not, texts read and not.
     drawn: [u64; 2],
     read: [u64; 3],
+    /// Sheets cleaned, amended ones and others, and not.
+    cleaned: [u64; 3],
 }
 
 impl Tally {
     fn add(&mut self, input: &Lent, replies: [Reply<u32>; CALLS.len()]) {
-        let [.., plan, next, apply, join, graph, graph_read] = replies;
+        let [.., plan, next, apply, join, graph, graph_read, clean] = replies;
         for refusal in replies.into_iter().filter_map(Reply::err) {
             self.refused[refusal.number as usize] += 1;
         }
@@ -167,6 +186,9 @@ impl Tally {
         if let Some(reply) = pictured(graph_read) {
             self.read[reply] += 1;
         }
+        if let Some(reply) = cleaned(input, clean) {
+            self.cleaned[reply] += 1;
+        }
     }
 
     /// How often the least frequent came up; of the moves, the first eight count.
@@ -174,14 +196,14 @@ impl Tally {
         let others = [self.unfit, self.written, self.done, self.commands];
         let times = |number| self.moves.get(&number).copied().unwrap_or(0);
         let applied: Vec<u64> = (0..8).map(times).chain([self.unchanged]).collect();
-        let pictures = [&self.drawn[..], &self.read].concat();
+        let outputs = [&self.drawn[..], &self.read, &self.cleaned].concat();
         let all = [
             &self.refused[1..],
             &others,
             &applied,
             &self.tags,
             &self.joined,
-            &pictures,
+            &outputs,
         ];
         all.concat().into_iter().min()
     }
@@ -191,11 +213,11 @@ impl Display for Tally {
     fn fmt(&self, out: &mut Formatter) -> std::fmt::Result {
         write!(
             out,
-            "refused 1 to 20: {:?}, 15 for an entry: {}, plans written: {}, done: {}, \
+            "refused 1 to 21: {:?}, 15 for an entry: {}, plans written: {}, done: {}, \
              commands: {}, changed: {} by {} moves, unchanged: {}, by tags (13, 16, 16 \
              for another refusal, unchanged): {:?}, joining (empty, other, 14 for a length, \
              14 at a machine, 19, 12): {:?}, drawing (a text, 12): {:?}, reading (a picture, \
-             12, 20): {:?}",
+             12, 20): {:?}, cleaning (amended, other, 12): {:?}",
             &self.refused[1..],
             self.unfit,
             self.written,
@@ -207,7 +229,8 @@ impl Display for Tally {
             self.tags,
             self.joined,
             self.drawn,
-            self.read
+            self.read,
+            self.cleaned
         )
     }
 }
@@ -244,6 +267,16 @@ fn pictured(reply: Reply<u32>) -> Option<usize> {
     }
 }
 
+/// Which reply of cleaning one is: of an amended sheet, of another, 12; none for a
+/// refused sheet.
+fn cleaned(input: &Lent, reply: Reply<u32>) -> Option<usize> {
+    match reply.map_err(|refusal| refusal.number) {
+        Ok(length) => Some((length as usize == input.sheet.get().len()) as usize),
+        Err(12) => Some(2),
+        Err(_) => None,
+    }
+}
+
 #[test]
 fn on_random_rounds() {
     let (rounds, first) = (setting("DUTY_ROUNDS", 20_000), setting("DUTY_SEED", 1));
@@ -260,16 +293,26 @@ fn on_random_rounds() {
     );
 }
 
+/// Makes random rounds of a kind.
+fn agree_on_rounds(lent: fn(&mut Random) -> Lent, kind: &str) {
+    let (rounds, first) = (setting("DUTY_ROUNDS", 20_000), setting("DUTY_SEED", 1));
+    for seed in first..first + rounds {
+        let input = lent(&mut Random::new(seed));
+        all_agree(&input, &format!("DUTY_ROUNDS=1 DUTY_SEED={seed}"));
+    }
+    say(format!("{rounds} random rounds with {kind} agree"));
+}
+
 /// On sheets in which some machines have no moves, so that moves of others are
 /// often not usable.
 #[test]
 fn on_random_rounds_with_idle_machines() {
-    let (rounds, first) = (setting("DUTY_ROUNDS", 20_000), setting("DUTY_SEED", 1));
-    for seed in first..first + rounds {
-        let input = idle_lent(&mut Random::new(seed));
-        all_agree(&input, &format!("DUTY_ROUNDS=1 DUTY_SEED={seed}"));
-    }
-    say(format!("{rounds} random rounds with idle machines agree"));
+    agree_on_rounds(idle_lent, "idle machines");
+}
+
+#[test]
+fn on_random_rounds_with_amendments() {
+    agree_on_rounds(amended_lent, "amendments");
 }
 
 /// Every slice of up to so many bytes from 0 to 3.

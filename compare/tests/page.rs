@@ -29,7 +29,7 @@ fn the_page_lists_every_number_in_order() {
     assert!(listed.is_sorted(), "{listed:?}");
     listed.dedup();
     assert_eq!(listed, defined());
-    assert_eq!(listed, (1..=20).collect::<Vec<_>>());
+    assert_eq!(listed, (1..=21).collect::<Vec<_>>());
 }
 
 #[test]

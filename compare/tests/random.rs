@@ -15,7 +15,7 @@ use duty_compare::Reply;
 /// Also shows that the rounds try every refusal there is.
 #[test]
 fn refused_calls_change_no_lent_byte() {
-    let mut seen = [0; 21];
+    let mut seen = [0; 22];
     for seed in 0..20_000 {
         let input = lent(&mut Random::new(seed));
         for call in &CALLS {
@@ -31,7 +31,7 @@ fn refused_calls_change_no_lent_byte() {
             seen[number as usize] += 1;
         }
     }
-    let missed: Vec<_> = (1..21).filter(|&number| seen[number] < 20).collect();
+    let missed: Vec<_> = (1..22).filter(|&number| seen[number] < 20).collect();
     assert_eq!(missed, [], "seldom or never refused so: {seen:?}");
 }
 
@@ -77,7 +77,8 @@ fn accepted_calls_write_where_they_should() {
                 let behind = |buffer, name| behind(buffer, name, call, reply).to_vec();
                 let joined = behind(&lent.out, "join");
                 let drawn = behind(&lent.drawn, "graph");
-                [joined, drawn, behind(&lent.shown, "graph_read")]
+                let shown = behind(&lent.shown, "graph_read");
+                [joined, drawn, shown, behind(&lent.cleaned, "clean")]
             };
             let (left, lent) = (outputs(&after), outputs(&input));
             assert_eq!(left, lent, "seed {seed}: {}", call.name);

@@ -2,7 +2,8 @@
 //! its place.
 
 use duty_compare::both::{
-    apply, check_sheet, graph, graph_read, join, next_command, own_plan, plan, plan_length, walk,
+    apply, check_sheet, clean, graph, graph_read, join, next_command, own_plan, plan, plan_length,
+    walk,
 };
 use duty_compare::command::Command;
 use duty_compare::faults::faulty_sheets;
@@ -44,6 +45,7 @@ fn every_call_refuses_a_faulty_sheet_alike() {
         );
         assert_eq!(join(&sheet, &[1], &mut []), refuse(number, place), "{name}");
         assert_eq!(graph(&sheet, &mut []), refuse(number, place), "{name}");
+        assert_eq!(clean(&sheet, &mut []), refuse(number, place), "{name}");
         assert_eq!(
             walk(&sheet, &[], &[]),
             format!("refused {number} {place}\n"),

@@ -96,7 +96,7 @@ fn a_tag_hinders_where_16_looks_and_nowhere_else() {
         let (sheet, plan, goal) = (input.sheet.get(), input.plan.get(), input.goal.get());
         let state = lifted(input.state.get());
         let reply = next_command(sheet, plan, &state, goal);
-        if reply.is_err_and(|refusal| refusal.number < 16) {
+        if reply.is_err_and(|refusal| !(16..=18).contains(&refusal.number)) {
             continue;
         }
         let groups = groups(plan, &state);

@@ -269,7 +269,7 @@ fn next_commands_are_those_of_the_definition() {
         ("18", "command"),
         ("command", "15"),
     ];
-    let seldom = [("16", "18"), ("18", "18")];
+    let seldom = [("16", "18"), ("18", "16"), ("18", "18")];
     for change in changed.keys() {
         assert!(
             often.contains(change) || seldom.contains(change),

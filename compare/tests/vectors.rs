@@ -8,6 +8,7 @@ use duty_compare::command::{Command, Effect, Next};
 use duty_compare::definition::Reading;
 use duty_compare::library::Library;
 use duty_compare::pictures::{own_text, shown, Drawing};
+use duty_compare::plain::Plain;
 use duty_compare::plan::MIN_SCRATCH;
 use duty_compare::shape::Plan;
 use duty_compare::sheet::Sheet;
@@ -63,8 +64,8 @@ const FIRST: Recording = Recording {
 const LATEST: Recording = Recording {
     setting: "DUTY_TICKET_VECTORS",
     folder: "ticket-vectors",
-    file: "L7.txt",
-    request: 7,
+    file: "L8.txt",
+    request: 8,
 };
 
 impl Recording {
@@ -220,13 +221,17 @@ impl<'a> Blobs<'a> {
                 lent.out = Slot::new(&vec![0x69; number(length)]);
                 "join"
             }
+            ["clean", _, length] => {
+                lent.cleaned = Slot::new(&vec![0x69; number(length)]);
+                "clean"
+            }
             _ => panic!("unknown call {call}"),
         };
         (name, lent)
     }
 
-    /// A recorded reply; writes what it says was written.
-    fn reply(&self, reply: &str, lent: &mut Lent) -> Reply<u32> {
+    /// A recorded reply to a call of this name; writes what it says was written.
+    fn reply(&self, name: &str, reply: &str, lent: &mut Lent) -> Reply<u32> {
         match fields(reply)[..] {
             ["refused", cause, place] => refuse(number(cause), number(place)),
             ["blob", plan] => {
@@ -245,13 +250,22 @@ impl<'a> Blobs<'a> {
                 Ok(applied(word, step))
             }
             ["bytes", written] => {
-                let written = hex(written);
-                lent.out.get_mut()[..written.len()].copy_from_slice(&written);
+                let (written, out) = (hex(written), output(name, lent));
+                out.get_mut()[..written.len()].copy_from_slice(&written);
                 Ok(written.len() as u32)
             }
             [length] => Ok(number(length)),
             _ => panic!("unknown reply {reply}"),
         }
+    }
+}
+
+/// The buffer that a call of this name writes bytes to.
+fn output<'a>(name: &str, lent: &'a mut Lent) -> &'a mut Slot {
+    match name {
+        "join" => &mut lent.out,
+        "clean" => &mut lent.cleaned,
+        _ => panic!("{name} writes no such bytes"),
     }
 }
 
@@ -318,9 +332,9 @@ fn calls_agree(recording: Recording, version: &str, side: fn(&Call) -> Side) {
     for (call, reply) in &calls {
         let (name, mut lent) = blobs.lent(call);
         let mut left = lent.clone();
-        let mut expected = blobs.reply(reply, &mut left);
+        let mut expected = blobs.reply(name, reply, &mut left);
         if let Some(reply) = recording.changed(call) {
-            expected = blobs.reply(reply, &mut left);
+            expected = blobs.reply(name, reply, &mut left);
             others += 1;
         }
         let version = side(Call::named(name).expect("a call"));
@@ -356,23 +370,25 @@ fn latest_calls_agree_with_the_library() {
     calls_agree(LATEST, Library::NAME, |call| call.library);
 }
 
-/// Every call tests 1 to 8 of its sheet first, so the library's check of the
-/// sheet must refuse exactly where the call was refused by such a number.
-fn sheets_agree(recording: Recording) {
+/// Every call tests its sheet first, by 1 to 8 and 21, so a check of the sheet must
+/// refuse exactly where the call was refused by such a number.
+fn sheets_agree(recording: Recording, version: &str, check: fn(&[u8]) -> Reply<u32>) {
     let Some(text) = recording.text() else { return };
     let (blobs, calls) = (Blobs::read(&recording, &text), calls(&text));
     let mut refused = 0;
     for (call, reply) in &calls {
-        let (_, mut lent) = blobs.lent(call);
-        let cause = Library::sheet(lent.sheet.get()).err();
-        let recorded = blobs.reply(reply, &mut lent);
-        let of_the_sheet = recorded.err().filter(|refusal| refusal.number <= 8);
+        let (name, mut lent) = blobs.lent(call);
+        let cause = check(lent.sheet.get()).err();
+        let recorded = blobs.reply(name, reply, &mut lent);
+        let of_the_sheet = recorded
+            .err()
+            .filter(|refusal| matches!(refusal.number, 1..=8 | 21));
         assert_eq!(cause, of_the_sheet, "{call}");
         refused += cause.is_some() as u32;
     }
     assert!(refused > 0, "no refused sheet is recorded");
     say(format!(
-        "{} recorded sheets of {} agree with the library, {refused} of them refused",
+        "{} recorded sheets of {} agree with {version}, {refused} of them refused",
         calls.len(),
         recording.file
     ));
@@ -380,12 +396,23 @@ fn sheets_agree(recording: Recording) {
 
 #[test]
 fn the_library_refuses_the_first_sheets_as_recorded() {
-    sheets_agree(FIRST);
+    sheets_agree(FIRST, Library::NAME, Library::sheet);
 }
 
 #[test]
 fn the_library_refuses_the_latest_sheets_as_recorded() {
-    sheets_agree(LATEST);
+    sheets_agree(LATEST, Library::NAME, Library::sheet);
+}
+
+/// Judges a sheet by the plain reading.
+fn plainly(sheet: &[u8]) -> Reply<u32> {
+    Plain::read(sheet).map(|plain| plain.value())
+}
+
+#[test]
+fn the_plain_reading_refuses_all_sheets_as_recorded() {
+    sheets_agree(FIRST, "the plain reading", plainly);
+    sheets_agree(LATEST, "the plain reading", plainly);
 }
 
 /// Whether a folder has one of the names that the vectors' README gives them.
@@ -582,7 +609,7 @@ fn latest_calls_agree_with_the_definition() {
     let mut count = 0;
     for (call, reply) in calls(&text) {
         let (name, mut lent) = blobs.lent(call);
-        let mut recorded = blobs.reply(reply, &mut lent);
+        let mut recorded = blobs.reply(name, reply, &mut lent);
         match name {
             "next" if in_shape(&lent) && !recorded.is_err_and(|refusal| refusal.number < 15) => {}
             "plan" if recorded.is_ok() => recorded = Ok(bound_of(lent.plan.get())),
@@ -627,8 +654,8 @@ fn changed_calls_are_those_of_usable_moves() {
     for (call, reply) in calls(&text) {
         let Some(since) = changed(call) else { continue };
         let (name, mut lent) = blobs.lent(call);
-        let mut recorded = blobs.reply(reply, &mut lent);
-        let mut now = blobs.reply(since, &mut lent.clone());
+        let mut recorded = blobs.reply(name, reply, &mut lent);
+        let mut now = blobs.reply(name, since, &mut lent.clone());
         if name == "plan" {
             recorded = Ok(bound_of(lent.plan.get()));
             now = Ok(number(since.strip_prefix("bound ").expect("a bound")));
