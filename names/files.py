@@ -38,14 +38,19 @@ def replaceable(path):
         raise Unable(f"{path} was written by hand: give it another name, then write again")
 
 
-def write(folder):
+def put(folder, new):
     """Writes all files aside first, so that a failure leaves the old ones."""
-    new = files(Text(folder))
     with tempfile.TemporaryDirectory(dir=folder, prefix=".kitchen") as aside:
         for name, data in new.items():
-            replaceable(os.path.join(folder, name))
             with open(os.path.join(aside, name), "wb") as file:
                 file.write(data)
         for name in new:
             os.replace(os.path.join(aside, name), os.path.join(folder, name))
+
+
+def write(folder):
+    new = files(Text(folder))
+    for name in new:
+        replaceable(os.path.join(folder, name))
+    put(folder, new)
     return check(folder)

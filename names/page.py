@@ -15,17 +15,45 @@ def table(heads, rows):
 
 def page(text):
     """The page of a folder."""
-    machines = ([n, machine.name, machine.about, machine.words()] for n, machine in enumerate(text.machines))
-    moves = ([n, machine.name, machine.modes[move.start], machine.modes[move.end], move.command, text.needs(move) or "nothing"]
-             for n, move in enumerate(text.moves) for machine in [text.machines[move.machine]])
     parts = [f"# {text.title}", text.about]
     if text.like:
-        parts += [f"Machines and moves are those of {text.like}."]
+        parts += [f"Machines and moves are those of {text.like}" + ", the moves as amended here" * bool(text.own) + "."]
     else:
-        parts += ["## Machines", table(["No.", "Machine", "What it is", "Modes"], machines) or "None."]
-        parts += ["## Moves", table(["No.", "Machine", "From", "To", "Command", "Waits for"], moves) or "None."]
+        parts += machines(text)
+    if text.own or not text.like:
+        parts += moves(text)
+    if text.own:
+        parts += amendments(text)
     parts += [run(text), text.notes, CLOSING]
     return "\n\n".join(part for part in parts if part) + "\n"
+
+
+def machines(text):
+    rows = ([n, machine.name, machine.about, machine.words()] for n, machine in enumerate(text.machines))
+    return ["## Machines", table(["No.", "Machine", "What it is", "Modes"], rows) or "None."]
+
+
+def moves(text):
+    """The part of the page about the moves that stand."""
+    rows = ([n, machine.name, machine.modes[move.start], machine.modes[move.end], move.command, waits(text, move)]
+            for n, move in enumerate(text.moves) for machine in [text.machines[move.machine]])
+    return ["## Moves", table(["No.", "Machine", "From", "To", "Command", "Waits for"], rows) or "None."]
+
+
+def waits(text, move):
+    return text.needs(move) or "nothing"
+
+
+def amendments(text):
+    """The part of the page about what became of moves."""
+    def leads(move, otherwise):
+        return f"to {text.machines[move.machine].modes[move.end]}, waits for {waits(text, move)}" if move else otherwise
+
+    rows = ([n, text.names[number], text.machines[number].modes[start], command, leads(was, "no such move"),
+             leads(amendment.move, "withdrawn")]
+            for n, (amendment, was) in enumerate(zip(text.amendments, text.found)) for number, start, command in [amendment.key])
+    return ["## Amendments", "They act in this order; the moves above are those that then stand.",
+            table(["No.", "Machine", "From", "Command", "Was", "Is now"], rows)]
 
 
 def run(text):

@@ -1,4 +1,4 @@
-"""Machines and moves, and their records."""
+"""Machines, moves and amendments, and their records."""
 
 from dataclasses import dataclass
 
@@ -54,6 +54,33 @@ class Move:
     needs: dict  # the modes of each machine that is needed, all by number, machines rising
     where: str = ""
 
-    def record(self):
+    def key(self):
+        """What an amendment finds it by."""
+        return self.machine, self.start, self.command
+
+    def record(self, kind=2):
         needs = [value for other, modes in self.needs.items() for value in (other, mask(modes))]
-        return record(2, [self.machine, self.start, self.end, self.command, *needs])
+        return record(kind, [self.machine, self.start, self.end, self.command, *needs])
+
+
+@dataclass
+class Amendment:
+    key: tuple  # of the move that it is for
+    move: Move  # what takes the place of that move; None withdraws it
+    where: str = ""
+
+    def record(self):
+        return self.move.record(4) if self.move else record(5, self.key)
+
+
+def amended(sent, amendments):
+    """The moves that stand after the amendments, in number order, and the one that each amendment found, or None."""
+    moves, places, found = list(sent), {}, []
+    for n, move in enumerate(sent):
+        places.setdefault(move.key(), n)
+    for amendment in amendments:
+        place = places.get(amendment.key)
+        found.append(None if place is None else moves[place])
+        if found[-1]:
+            moves[place] = amendment.move
+    return [move for move in moves if move], found

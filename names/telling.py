@@ -23,7 +23,7 @@ def place(text, number, at):
         return ""
     if number in (13, 14) and at == 255:
         return " at the length"
-    if number > 8:
+    if number > 8 and number != 21:
         return f" at {text.names[at]}" if at < len(text.names) else f" at machine {at}, which {TEXT} does not have"
     end = 0
     for data, what, where in text.records():
@@ -42,7 +42,7 @@ def shown(text):
     for n, move in enumerate(text.moves):
         needs = "".join(f", needs machine {other} in {number(modes)}" for other, modes in move.needs.items())
         line = f"move {n}: machine {move.machine} from {move.start} to {move.end}, command {move.command}{needs}"
-        lines[line] = f"move {n}, {text.move(n)}" + f", waits for {text.needs(move)}" * bool(needs)
+        lines[line] = f"move {n}, {text.move(move)}" + f", waits for {text.needs(move)}" * bool(needs)
     return lines
 
 
@@ -57,8 +57,8 @@ def told(text, line, known, words):
             return f"{line}: {TEXT} has no move {number}", 1
         move = text.moves[number]
         if (move.machine, move.command) != (machine, command):
-            return f"{line}: in {TEXT}, move {number} is {text.move(number)}", 1
-        return text.move(number, f", move {number}"), 0
+            return f"{line}: in {TEXT}, move {number} is {text.move(move)}", 1
+        return text.move(move, f", move {number}"), 0
     if done:
         commands = "1 command" if done[1] == "1" else f"{done[1]} commands"
         return f"done after {commands}; no wish takes more than {done[2]}, from any state", 0

@@ -7,18 +7,21 @@ import tomllib
 
 from names.faults import Faulty, content
 from names.lines import Lines
-from names.sheet import Machine, Move, mask, octets, record
+from names.sheet import Amendment, Machine, Move, amended, mask, octets, record
 
 TEXT, PAGE = "kitchen.toml", "README.md"
 WISHES = ["wish"] + [f"wish{n}" for n in range(2, 9)]
 BYTES = [f"{name}.bin" for name in ["sheet", "state", *WISHES]]
 
 # The keys of each table, and the kinds of value that each may have.
-TOP = {"title": [str], "about": [str], "like": [str], "machines": [list], "moves": [list], "tags": [list], "short": [list],
-       "notes": [str], "state": [dict, list], **{wish: [dict, list] for wish in WISHES}}
+TOP = {"title": [str], "about": [str], "like": [str], "machines": [list], "moves": [list], "amendments": [list], "tags": [list],
+       "short": [list], "notes": [str], "state": [dict, list], **{wish: [dict, list] for wish in WISHES}}
 MACHINE = {"name": [str], "modes": [list], "out_of_order": [list], "about": [str]}
 MOVE = {"machine": [str], "from": [str], "to": [str], "command": [int], "needs": [dict]}
-KINDS = {str: "text in quotes", list: "a list", int: "a whole number", dict: "a table"}
+AMENDMENT = {**MOVE, "withdrawn": [bool]}
+# Those that find a move, and those that a withdrawn one does not have.
+FINDING, LEADING = ["machine", "from", "command"], ["to", "needs"]
+KINDS = {str: "text in quotes", list: "a list", int: "a whole number", bool: "true or false", dict: "a table"}
 
 
 def quote(value):
@@ -35,13 +38,14 @@ class Text:
         values = self.fields((), values, TOP, ["title"] if "like" in values else ["title", "machines", "moves"])
         self.title = " ".join(values.get("title", "").split())
         self.about, self.notes = (values.get(key, "").strip() for key in ("about", "notes"))
-        self.machines, self.moves, self.names, self.like = [], [], [], None
+        self.machines, self.sent, self.amendments, self.names, self.like = [], [], [], [], None
         if "like" in values:
             self.take_over(values, (*above, os.path.realpath(folder)))
             self.settle()
         else:
             self.take_machines(values)
             self.take_moves(values)
+        self.take_amendments(values)
         self.take_state(values)
         self.take_wishes(values)
         self.take_bytes(values)
@@ -120,7 +124,7 @@ class Text:
         return {n: self.modes(path + (self.names[n],), n, said[self.names[n]]) for n in numbers}
 
     def take_over(self, values, above):
-        """Machines and moves of another text."""
+        """Machines and moves of another text, with its amendments."""
         for key in ("machines", "moves"):
             if key in values:
                 self.fault((key,), f"{key} are those that like leads to")
@@ -131,7 +135,7 @@ class Text:
             self.fault(("like",), f"like leads nowhere: no {os.path.join(folder, TEXT)}")
         else:
             other = Text(folder, above)
-            self.machines, self.moves, self.names = other.machines, other.moves, other.names
+            self.machines, self.sent, self.amendments, self.names = other.machines, other.sent, other.amendments, other.names
             self.like = f"[{other.title}]({values['like'].rstrip('/')}/{PAGE})"
 
     def take_machines(self, values):
@@ -146,17 +150,39 @@ class Text:
         if len(self.places(("machines",), self.names)) < len(self.names):
             self.settle()  # what names machines cannot be judged
 
+    def step(self, path, got):
+        """The move that the values of a table say, in a list; the list is empty where they do not say which."""
+        needs = self.by_machine(path + ("needs",), got.get("needs", {}), [str, list])
+        if not 0 <= got.get("command", 0) <= 255:
+            self.fault(path + ("command",), f"command {got['command']} is no byte: 1 to 255")
+        machine = [got["machine"]] if all(key in got for key in FINDING) else []
+        moves = []
+        for number in self.places(path + ("machine",), machine, self.names, "no machine"):
+            modes = [self.modes(path + (key,), number, got[key]) or [0] for key in ("from", "to") if key in got]
+            moves.append(Move(number, modes[0][0], modes[-1][0], got["command"], needs, self.where(path)))
+        return moves
+
     def take_moves(self, values):
         for n, value in enumerate(values.get("moves", [])):
-            path, needed = ("moves", n), ["machine", "from", "to", "command"]
-            got = self.fields(path, value, MOVE, needed)
-            needs = self.by_machine(path + ("needs",), got.get("needs", {}), [str, list])
-            if not 0 <= got.get("command", 0) <= 255:
-                self.fault(path + ("command",), f"command {got['command']} is no byte: 1 to 255")
-            machine = [got["machine"]] if all(key in got for key in needed) else []
-            for number in self.places(path + ("machine",), machine, self.names, "no machine"):
-                start, end = (self.modes(path + (key,), number, got[key]) or [0] for key in ("from", "to"))
-                self.moves.append(Move(number, start[0], end[0], got["command"], needs, self.where(path)))
+            path = ("moves", n)
+            self.sent += self.step(path, self.fields(path, value, MOVE, [*FINDING, "to"]))
+
+    def change(self, path, value):
+        """The amendment that a table says, in a list, as of a move."""
+        withdrawn = type(value) is dict and value.get("withdrawn", False) is not False
+        got = self.fields(path, value, AMENDMENT, FINDING if withdrawn else [*FINDING, "to"])
+        for key in LEADING:
+            if withdrawn and key in got:
+                self.fault(path + (key,), f"a withdrawn move has no {key}")
+        return [Amendment(move.key(), None if withdrawn else move, move.where) for move in self.step(path, got)]
+
+    def take_amendments(self, values):
+        """The amendments of this text, behind those of the text that it is like, and the moves that then stand."""
+        self.own = []
+        for n, value in enumerate(values.get("amendments", [])):
+            self.own += self.change(("amendments", n), value)
+        self.amendments = self.amendments + self.own
+        self.moves, self.found = amended(self.sent, self.amendments)
 
     def take_state(self, values):
         self.tags = self.places(("tags",), values.get("tags", []), self.names, "no machine")
@@ -186,11 +212,17 @@ class Text:
                 if type(value) is not int or not 0 <= value <= 255:
                     self.fault((name, n), "a byte must be a whole number from 0 to 255")
 
-    def move(self, number, more=""):
+    def move(self, move, more=""):
         """A move in words."""
-        move = self.moves[number]
         machine = self.machines[move.machine]
         return f"{machine.name}: {machine.modes[move.start]} to {machine.modes[move.end]} (command {move.command}{more})"
+
+    def amendment(self, amendment):
+        """An amendment in words."""
+        if amendment.move:
+            return self.move(amendment.move)
+        number, start, command = amendment.key
+        return f"{self.names[number]}: from {self.machines[number].modes[start]} (command {command}) withdrawn"
 
     def needs(self, move):
         """What a move waits for, in words."""
@@ -200,9 +232,16 @@ class Text:
         """Each record of the sheet: its bytes, what it is, and where that stands."""
         for n, machine in enumerate(self.machines):
             yield machine.record(), f"machine {n}, {machine.name}", machine.where
-        for n, move in enumerate(self.moves):
-            yield move.record(), f"move {n}, {self.move(n)}", move.where
+        sent = " as sent" * bool(self.amendments)
+        for n, move in enumerate(self.sent):
+            yield move.record(), f"move {n}{sent}, {self.move(move)}", move.where
+        for n, amendment in enumerate(self.amendments):
+            yield amendment.record(), f"amendment {n}, {self.amendment(amendment)}", amendment.where
         yield record(3), "the end of the sheet", self.path
+
+    def clean(self):
+        """The sheet without amendments: machines, the moves that stand, and the end."""
+        return b"".join(item.record() for item in [*self.machines, *self.moves]) + record(3)
 
     def data(self):
         """The files of bytes, by name."""
