@@ -17,7 +17,7 @@ use sheet::record::wide;
 use sheet::refusal::Cause;
 
 // What is to be done next: nothing, a command, or the refusal.
-#[derive(Drop)]
+#[derive(Clone, Copy)]
 pub enum Advice {
     Done,
     // The machine and the command byte.

@@ -15,7 +15,7 @@ use sheet::index::{Machine, Move};
 use sheet::refusal::{Cause, Length};
 
 // How long the plan is and its bound, or the refusal.
-#[derive(Drop)]
+#[derive(Clone, Copy)]
 pub enum Start {
     Ready(usize, u64),
     // The cause and its place.
@@ -23,7 +23,7 @@ pub enum Start {
 }
 
 // What a turn came to.
-#[derive(Drop)]
+#[derive(Clone, Copy)]
 pub enum Turned {
     Done,
     // The machine, the command byte, and the move that it was, 255 for none.

@@ -23,6 +23,7 @@ use Rattle.common.proofs.Members.{mem_index}
 module _ {A : Type 0} (p : A → Bool) where
   pub all-at : {x : A} {xs : List A} → all p xs ≡ true → Memᴰ x xs → p x ≡ true
   unfolding all
+  all-at {xs = []} h x6 = elim x6 [ ]
   all-at {xs = y ∷ ys} h (head e) = ap p e ∙ and_left _ _ h
   all-at {xs = y ∷ ys} h (tail m) = all-at (and_right (p y) _ h) m
 
@@ -41,6 +42,7 @@ module _ {A : Type 0} (p : A → Bool) where
 
   pub any-intro : {x : A} {xs : List A} → Memᴰ x xs → p x ≡ true → any p xs ≡ true
   unfolding any
+  any-intro {xs = []} x6 t = elim x6 [ ]
   any-intro {xs = y ∷ ys} (head e) t = or_left _ (ap p (sym e) ∙ t)
   any-intro {xs = y ∷ ys} (tail m) t = or_right (p y) (any-intro m t)
 
@@ -91,6 +93,7 @@ module _ {A : Type 0} (p : A → Bool) where
   filter-drops x xs f = rw f
 
   pub filter-mem : {x : A} {xs : List A} → Memᴰ x xs → p x ≡ true → Memᴰ x (filter p xs)
+  filter-mem {xs = []} x6 t = elim x6 [ ]
   filter-mem {xs = y ∷ ys} (head e) t = rw (filter-keeps y ys (ap p (sym e) ∙ t)) (head e)
   filter-mem {xs = y ∷ ys} (tail m) t =
       by_cases (p y)
@@ -191,6 +194,7 @@ module _ {A : Type 0} (p q : A → Bool) where
   pub length-filter-less : {x : A} {xs : List A} → ((y : A) → Memᴰ y xs → p y ≡ true → q y ≡ true)
       → Memᴰ x xs → p x ≡ false → q x ≡ true → length (filter p xs) < length (filter q xs)
   unfolding filter
+  length-filter-less {xs = []} h x12 f t = elim x12 [ ]
   length-filter-less {xs = y ∷ ys} h (head e) f t =
       rw (ap p (sym e) ∙ f, ap q (sym e) ∙ t) (suc-le-suc (length-filter-mono ys (λ z m. h z (tail m))))
   length-filter-less {xs = y ∷ ys} h (tail l) f t =

@@ -31,6 +31,7 @@ module _ {A : Type 0} where
 module _ {A B : Type 0} (f : A → List B) {y : B} where
   pub flat_map-mem : {x : A} {xs : List A} → Memᴰ x xs → Memᴰ y (f x) → Memᴰ y (flat_map f xs)
   unfolding flat_map
+  flat_map-mem {xs = []} x6 l = elim x6 [ ]
   flat_map-mem {xs = z ∷ zs} (head e) l = Memᴰ.append_left (flat_map f zs) (subst (λ x. Memᴰ y (f x)) e l)
   flat_map-mem {xs = z ∷ zs} (tail m) l = Memᴰ.append_right (f z) (flat_map-mem m l)
 

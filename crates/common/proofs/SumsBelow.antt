@@ -41,6 +41,7 @@ module _ (cost : ℕ → ℕ) where
   sum_below-up g (x ∷ xs) = omega (arith, grows 0 g x xs (omega (arith, sum_below-up g xs)))
 
   pub sum_below-mem : {g : ℕ} {xs : List ℕ} → Memᴰ g xs → cost g + sum_below g xs ≤ sum_below (suc g) xs
+  sum_below-mem {g = g} {xs = []} x'' = elim x'' [ ]
   sum_below-mem {g} {xs = x ∷ xs} (head e) =
       omega (arith, ap cost e, drops g x xs (omega arith), keeps (suc g) x xs (omega arith), sum_below-up g xs)
   sum_below-mem {g} {xs = x ∷ xs} (tail m) = grows (cost g) g x xs (sum_below-mem m)

@@ -1,4 +1,5 @@
 // Decimal numbers in a text of bytes: written without leading zeros, and read.
+#![tactic(auto)]
 pub mod promises;
 pub mod text;
 

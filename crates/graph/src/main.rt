@@ -1,4 +1,5 @@
 // Prints the picture of the sheet in sheet.bin for Graphviz, or the sheet's refusal.
+#![tactic(auto)]
 use printer::{load, refusal_in_words, text, within};
 use sheet::refusal::Length;
 

@@ -15,7 +15,7 @@ use sheet::record::wide;
 use sheet::refusal::Verdict;
 
 // Goals that are joined.
-#[derive(Drop)]
+#[derive(Clone, Copy)]
 pub struct Joint;
 
 impl Joint {

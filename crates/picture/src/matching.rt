@@ -13,7 +13,7 @@ use search::mark;
 use sheet::index::Sheet;
 
 // A number and the place behind it.
-#[derive(Drop)]
+#[derive(Clone, Copy)]
 pub struct Number {
     pub value: usize,
     pub end: usize,
@@ -21,14 +21,14 @@ pub struct Number {
 }
 
 // The machines of a label, as a set, and the place behind it. No machines where there is no label.
-#[derive(Drop)]
+#[derive(Clone, Copy)]
 pub struct Label {
     pub machines: u64,
     pub end: usize,
 }
 
 // The machines of the nodes, as a set, how many nodes, and the place behind them. No nodes where one is wrong.
-#[derive(Drop)]
+#[derive(Clone, Copy)]
 pub struct Nodes {
     pub seen: u64,
     pub count: usize,
@@ -36,7 +36,7 @@ pub struct Nodes {
 }
 
 // The targets of the edges from a group, as a set, and the place behind them.
-#[derive(Drop)]
+#[derive(Clone, Copy)]
 pub struct Row {
     pub targets: u64,
     pub end: usize,
@@ -44,21 +44,21 @@ pub struct Row {
 }
 
 // The place behind all edges.
-#[derive(Drop)]
+#[derive(Clone, Copy)]
 pub struct End {
     pub end: usize,
     pub fits: bool,
 }
 
 // How many machines and how many groups. No machines where the text is no picture's.
-#[derive(Drop)]
+#[derive(Clone, Copy)]
 pub struct Counts {
     pub machines: usize,
     pub groups: usize,
 }
 
 // What a text says: how many machines and groups, each machine's group, and the groups that need each group.
-#[derive(Drop)]
+#[derive(Clone, Copy)]
 pub struct Found {
     pub machines: usize,
     pub groups: usize,

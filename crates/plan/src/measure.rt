@@ -15,7 +15,7 @@ use sheet::record::wide;
 use sheet::refusal::{Cause, Length, Verdict};
 
 // A plan.
-#[derive(Drop)]
+#[derive(Clone, Copy)]
 pub struct Plan;
 
 impl Plan {

@@ -9,7 +9,7 @@ use sheet::index::{Machine, Sheet};
 use sheet::record::{Record, body, wide, word_at};
 
 // An entry of a table: a distance and a first move.
-#[derive(Drop)]
+#[derive(Clone, Copy)]
 pub struct Cell {
     pub distance: u8,
     pub first: u8,

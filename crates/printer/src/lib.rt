@@ -1,4 +1,5 @@
 // Prints a sheet in plain words and numbers: a line for each machine and each move and one that counts them, or its refusal.
+#![tactic(auto)]
 ghost use Rattle.io.specs.Counts.{IsPrefixLen};
 
 use libc::STDOUT_FILENO;

@@ -18,7 +18,7 @@ use crate::refusal::{Cause, Verdict};
 use crate::sent::{find, pair_of, repeated};
 
 // An amendment: the machine, from mode and command of the move that it names.
-#[derive(Drop)]
+#[derive(Clone, Copy)]
 pub struct Amendment {
     pub machine: u8,
     pub from: u8,
@@ -31,14 +31,14 @@ impl Amendment {
 }
 
 // A standing move by its number as it was sent, or that there is none.
-#[derive(Drop)]
+#[derive(Clone, Copy)]
 pub enum Found {
     Number(usize),
     Nothing,
 }
 
 // Places that have closed up.
-#[derive(Drop)]
+#[derive(Clone, Copy)]
 pub struct Left {
     pub moves: usize,
     pub places: [u16; Sheet::MOVES],

@@ -10,11 +10,11 @@ use crate::record::{body, byte_at, wide, word_at};
 use crate::refusal::{Cause, Verdict};
 
 // The number of a machine.
-#[derive(Drop)]
+#[derive(Clone, Copy)]
 pub struct Machine(pub u8);
 
 // The number of a move.
-#[derive(Drop)]
+#[derive(Clone, Copy)]
 pub struct Move(pub u8);
 
 impl Machine {
@@ -33,7 +33,7 @@ impl Move {
     pub const LONGEST: usize = Move::HEAD + 2 * Move::GUARDS;
 }
 
-#[derive(Drop)]
+#[derive(Clone, Copy)]
 pub struct Sheet {
     pub machines: usize,
     pub moves: usize,
@@ -43,7 +43,7 @@ pub struct Sheet {
 }
 
 // The reply of reading a sheet. A refused sheet has the empty index.
-#[derive(Drop)]
+#[derive(Clone, Copy)]
 pub struct Reading {
     pub verdict: Verdict,
     pub sheet: Sheet,

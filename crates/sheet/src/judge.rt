@@ -14,14 +14,14 @@ use crate::record::{byte_at, wide};
 use crate::refusal::Cause;
 
 // What judging a record finds.
-#[derive(Drop)]
+#[derive(Clone, Copy)]
 pub enum Judged {
     Fine,
     Faulty(Cause),
 }
 
 // Machines and moves read so far.
-#[derive(Drop)]
+#[derive(Clone, Copy)]
 pub struct Counts {
     pub machines: usize,
     pub moves: usize,

@@ -5,7 +5,7 @@ ghost use Rattle.sheet.specs.Record.{record_at};
 use crate::record::Record;
 
 // A file, and the place in it where the next record begins.
-#[derive(Drop)]
+#[derive(Clone, Copy)]
 pub struct Records<'a> {
     pub file: &'a [u8],
     pub at: usize,

@@ -3,7 +3,7 @@ ghost use Rattle.std.specs.Prelude.{◌≡◌, ◌+◌, ◌*◌, ◌<◌};
 ghost use Rattle.sheet.specs.Record.{byte, word, record_at, body_at};
 
 // What begins at a place of a file.
-#[derive(Drop)]
+#[derive(Clone, Copy)]
 pub enum Record {
     // A whole record: its kind, where its body starts, and how long that is.
     Whole { kind: u16, start: usize, len: usize },

@@ -2,7 +2,7 @@
 ghost use Rattle.std.specs.Prelude.{◌≡◌};
 ghost use Rattle.sheet.specs.Refusal.{number_of};
 
-#[derive(Drop)]
+#[derive(Clone, Copy)]
 pub enum Cause {
     // 1 to 8: a sheet, and 21, below.
     CutShort,
@@ -34,7 +34,7 @@ pub enum Cause {
 }
 
 // What a test of lent bytes finds.
-#[derive(Drop)]
+#[derive(Clone, Copy)]
 pub enum Verdict {
     Accepted,
     // The cause and its place.
@@ -42,7 +42,7 @@ pub enum Verdict {
 }
 
 // The reply of a call that tells a number of bytes.
-#[derive(Drop)]
+#[derive(Clone, Copy)]
 pub enum Length {
     Bytes(usize),
     // The cause and its place.

@@ -1,4 +1,5 @@
 // Prints the sheet in sheet.bin.
+#![tactic(auto)]
 fn main() {
     printer::show();
 }

@@ -1,4 +1,5 @@
 // Walks the sheet, the state and the wish in the files here.
+#![tactic(auto)]
 fn main() {
     walker::walk();
 }

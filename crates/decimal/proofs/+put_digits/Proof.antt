@@ -63,8 +63,8 @@ returns-3 t c =
     put-more _ _ _ _ at_some.if1.false at_long.if2.false room at-digits.put-digits.ensures
     at-digit.put-digit2.ensures
 
-pub +put-digits-spec : {M : Type 1} → statement M
-+put-digits-spec =
+pub +put_digits_spec : {M : Type 1} → statement M
++put_digits_spec =
     close μ λ t.
     put-digits-lts.spec (calls t) (enters t) put-digits.Post
     (returns t)

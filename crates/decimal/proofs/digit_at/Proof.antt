@@ -17,5 +17,5 @@ returns c = search rules
 returns-2 : tie.Need-returns-2
 returns-2 c = le-ltb _ _ c.if1.false ∙ no-digit-past c.before.before.args.text.now c.if1.false
 
-pub digit-at-spec : {M : Type 1} → statement M
-digit-at-spec = tie.close (tie.spec shared-slice-read-is-digit is-digit-requires returns returns-2)
+pub digit_at_spec : {M : Type 1} → statement M
+digit_at_spec = tie.close (tie.spec shared-slice-read-is-digit is-digit-requires returns returns-2)

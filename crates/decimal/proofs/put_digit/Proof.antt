@@ -23,6 +23,6 @@ returns : tie.Need-returns
 unfolding digit
 returns c = put_byte _ _ _ c.requires
 
-pub put-digit-spec : {M : Type 1} → statement M
-put-digit-spec =
+pub put_digit_spec : {M : Type 1} → statement M
+put_digit_spec =
     tie.close (tie.spec cast-out add-out slice-write-out add-result same_length returns)

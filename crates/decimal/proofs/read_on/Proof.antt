@@ -58,8 +58,8 @@ loop-again c = let digit = sym c.before.before.before.digit_at.ensures ∙ c.bef
 returns-2 : tie.Need-returns-2 invariant-loop decreases-loop
 returns-2 c = read-end c.before.before.loop.invariant (sym c.before.digit_at.ensures ∙ c.if1.false)
 
-pub read-on-spec : {M : Type 1} → statement M
-read-on-spec =
+pub read_on_spec : {M : Type 1} → statement M
+read_on_spec =
     tie.close
     (tie.spec
     invariant-loop

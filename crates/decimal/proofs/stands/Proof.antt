@@ -50,8 +50,8 @@ returns-3 c = let start = c.before.before.before.before in
     start.requires.1 in
     c.if2.false ∙ rw (sym c.before.has2.ensures, c.if2.false) at both
 
-pub stands-spec : {M : Type 1} → statement M
-stands-spec =
+pub stands_spec : {M : Type 1} → statement M
+stands_spec =
     tie.close
     (tie.spec
     cast-has

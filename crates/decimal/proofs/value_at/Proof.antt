@@ -27,5 +27,5 @@ returns c = (
   ),
 )
 
-pub value-at-spec : {M : Type 1} → statement M
-value-at-spec = tie.close (tie.spec shared-slice-read-wide wide-requires sub-result returns)
+pub value_at_spec : {M : Type 1} → statement M
+value_at_spec = tie.close (tie.spec shared-slice-read-wide wide-requires sub-result returns)

@@ -50,8 +50,8 @@ returns-3 c =
     let p = c.before.before.before.before.before.before.apply.ensures in
     (c.refusal.ensures ∙ unapplied-word _ _ _ _ _ p.0 _ _ c.before.before.change2.given.1, p.1)
 
-pub duty-apply-spec : {M : Type 1} → statement M
-duty-apply-spec =
+pub duty_apply_spec : {M : Type 1} → statement M
+duty_apply_spec =
     tie.close
     (tie.spec
     apply-requires

@@ -21,5 +21,5 @@ returns c =
     let j = c.before.before.before.clean.ensures in
     (c.length-word.ensures ∙ ap word_of j.0, j.1)
 
-pub duty-clean-spec : {M : Type 1} → statement M
-duty-clean-spec = tie.close (tie.spec clean-requires length-word-requires same_length returns)
+pub duty_clean_spec : {M : Type 1} → statement M
+duty_clean_spec = tie.close (tie.spec clean-requires length-word-requires same_length returns)

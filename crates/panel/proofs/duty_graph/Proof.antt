@@ -21,5 +21,5 @@ returns c =
     let j = c.before.before.before.draw.ensures in
     (c.length-word.ensures ∙ ap word_of j.0, j.1)
 
-pub duty-graph-spec : {M : Type 1} → statement M
-duty-graph-spec = tie.close (tie.spec draw-requires length-word-requires same_length returns)
+pub duty_graph_spec : {M : Type 1} → statement M
+duty_graph_spec = tie.close (tie.spec draw-requires length-word-requires same_length returns)

@@ -21,5 +21,5 @@ returns c =
     let j = c.before.before.before.read.ensures in
     (c.length-word.ensures ∙ ap word_of j.0, j.1)
 
-pub duty-graph-read-spec : {M : Type 1} → statement M
-duty-graph-read-spec = tie.close (tie.spec read-requires length-word-requires same_length returns)
+pub duty_graph_read_spec : {M : Type 1} → statement M
+duty_graph_read_spec = tie.close (tie.spec read-requires length-word-requires same_length returns)

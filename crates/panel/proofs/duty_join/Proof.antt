@@ -21,5 +21,5 @@ returns c =
     let j = c.before.before.before.join.ensures in
     (c.length-word.ensures ∙ ap word_of j.0, j.1)
 
-pub duty-join-spec : {M : Type 1} → statement M
-duty-join-spec = tie.close (tie.spec join-requires length-word-requires same_length returns)
+pub duty_join_spec : {M : Type 1} → statement M
+duty_join_spec = tie.close (tie.spec join-requires length-word-requires same_length returns)

@@ -47,8 +47,8 @@ returns-3 c =
     let e = c.before.before.before.before.next.ensures in
     c.refusal.ensures ∙ unadvised-word _ _ _ _ _ e _ _ c.before.before.advice2.given.1
 
-pub duty-next-spec : {M : Type 1} → statement M
-duty-next-spec =
+pub duty_next_spec : {M : Type 1} → statement M
+duty_next_spec =
     tie.close
     (tie.spec
     next-requires

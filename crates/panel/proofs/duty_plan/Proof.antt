@@ -40,8 +40,8 @@ returns-2 c =
     let p = c.before.before.before.before.before.before.before.before.plan.ensures in
     (c.refusal.ensures ∙ unplanned-word _ _ _ _ p.0 _ _ c.before.before.planned.given.1, p.1)
 
-pub duty-plan-spec : {M : Type 1} → statement M
-duty-plan-spec =
+pub duty_plan_spec : {M : Type 1} → statement M
+duty_plan_spec =
     tie.close
     (tie.spec
     plan-requires

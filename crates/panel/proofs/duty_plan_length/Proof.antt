@@ -14,5 +14,5 @@ length-word-requires c κs = measured-near _ c.plan-length.result c.plan-length.
 returns : tie.Need-returns
 returns c = c.length-word.ensures ∙ ap word_of c.before.plan-length.ensures
 
-pub duty-plan-length-spec : {M : Type 1} → statement M
-duty-plan-length-spec = tie.close (tie.spec plan-length-requires length-word-requires returns)
+pub duty_plan_length_spec : {M : Type 1} → statement M
+duty_plan_length_spec = tie.close (tie.spec plan-length-requires length-word-requires returns)

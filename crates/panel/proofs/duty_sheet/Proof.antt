@@ -29,8 +29,8 @@ refusal-requires c κs = refused-near _ _ c.before.before.before.read.ensures.0 
 returns-2 : tie.Need-returns-2
 returns-2 c = c.refusal.ensures ∙ refused-word _ _ c.before.before.before.before.read.ensures.0 _ _ c.before.before.verdict.given.1
 
-pub duty-sheet-spec : {M : Type 1} → statement M
-duty-sheet-spec =
+pub duty_sheet_spec : {M : Type 1} → statement M
+duty_sheet_spec =
     tie.close
     (tie.spec
     read-requires

@@ -19,6 +19,6 @@ returns c = search rules
 returns-2 : tie.Need-returns-2
 returns-2 c = c.refusal.ensures ∙ unmeasured-word _ _ _ c.before.before.length2.given.1
 
-pub length-word-spec : {M : Type 1} → statement M
-length-word-spec =
+pub length_word_spec : {M : Type 1} → statement M
+length_word_spec =
     tie.close (tie.spec enum-known-length enum-known-length-2 refusal-requires returns returns-2)

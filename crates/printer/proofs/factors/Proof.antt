@@ -42,8 +42,8 @@ loop-again c = search rules
 returns : tie.Need-returns invariant-loop decreases-loop
 returns c = search rules
 
-pub factors-spec : {M : Type 1} → statement M
-factors-spec =
+pub factors_spec : {M : Type 1} → statement M
+factors_spec =
     tie.close
     (tie.spec
     invariant-loop

@@ -30,8 +30,8 @@ loop-again c = search rules
 returns : tie.Need-returns invariant-loop decreases-loop
 returns c = search rules
 
-pub machine-lines-spec : {M : Type 1} → statement M
-machine-lines-spec =
+pub machine_lines_spec : {M : Type 1} → statement M
+machine_lines_spec =
     tie.close
     (tie.spec
     invariant-loop

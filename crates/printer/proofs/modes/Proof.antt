@@ -36,8 +36,8 @@ loop-again c = search rules
 returns : tie.Need-returns invariant-loop decreases-loop
 returns c = search rules
 
-pub modes-spec : {M : Type 1} → statement M
-modes-spec =
+pub modes_spec : {M : Type 1} → statement M
+modes_spec =
     tie.close
     (tie.spec
     invariant-loop

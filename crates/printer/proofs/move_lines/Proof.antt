@@ -30,8 +30,8 @@ loop-again c = search rules
 returns : tie.Need-returns invariant-loop decreases-loop
 returns c = search rules
 
-pub move-lines-spec : {M : Type 1} → statement M
-move-lines-spec =
+pub move_lines_spec : {M : Type 1} → statement M
+move_lines_spec =
     tie.close
     (tie.spec
     invariant-loop

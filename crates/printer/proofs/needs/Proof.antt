@@ -33,8 +33,8 @@ loop-again c = search rules
 returns : tie.Need-returns invariant-loop decreases-loop
 returns c = search rules
 
-pub needs-spec : {M : Type 1} → statement M
-needs-spec =
+pub needs_spec : {M : Type 1} → statement M
+needs_spec =
     tie.close
     (tie.spec
     invariant-loop

@@ -23,5 +23,5 @@ mul-result c = search (rules, within _ _ _ c.if2.false)
 returns-3 : tie.Need-returns-3
 returns-3 c = search rules
 
-pub product-spec : {M : Type 1} → statement M
-product-spec = tie.close (tie.spec returns div-if2 returns-2 mul-result returns-3)
+pub product_spec : {M : Type 1} → statement M
+product_spec = tie.close (tie.spec returns div-if2 returns-2 mul-result returns-3)

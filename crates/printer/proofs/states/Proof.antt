@@ -36,8 +36,8 @@ loop-again c = search rules
 returns : tie.Need-returns invariant-loop decreases-loop
 returns c = search rules
 
-pub states-spec : {M : Type 1} → statement M
-states-spec =
+pub states_spec : {M : Type 1} → statement M
+states_spec =
     tie.close
     (tie.spec
     invariant-loop

@@ -17,5 +17,5 @@ returns c = counted _ _ (omega arith)
 returns-2 : tie.Need-returns-2
 returns-2 c = counted _ _ (omega arith)
 
-pub within-spec : {M : Type 1} → statement M
-within-spec = tie.close (tie.spec returns returns-2)
+pub within_spec : {M : Type 1} → statement M
+within_spec = tie.close (tie.spec returns returns-2)

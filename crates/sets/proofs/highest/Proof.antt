@@ -15,5 +15,5 @@ returns : tie.Need-returns
 returns c =
     (greatest-below _ c.requires (search rules), greatest-member _ c.requires (search rules), greatest-above _ c.requires (search rules))
 
-pub highest-spec : {M : Type 1} → statement M
-highest-spec = tie.close (tie.spec cast-result sub-result returns)
+pub highest_spec : {M : Type 1} → statement M
+highest_spec = tie.close (tie.spec cast-result sub-result returns)

@@ -14,5 +14,5 @@ returns c j = rw (c.with.ensures, bit-union, bit-alone, c.before.if1.true)
 returns-2 : tie.Need-returns-2
 returns-2 c j = rw c.if1.false (sym (or-false _))
 
-pub put-if-spec : {M : Type 1} → statement M
-put-if-spec = tie.close (tie.spec with-requires returns returns-2)
+pub put_if_spec : {M : Type 1} → statement M
+put_if_spec = tie.close (tie.spec with-requires returns returns-2)

@@ -9,5 +9,5 @@ sub-result c = search rules
 returns : tie.Need-returns
 returns c = least-cleared c.requires c.ranges.s.fits
 
-pub rest-spec : {M : Type 1} → statement M
-rest-spec = tie.close (tie.spec sub-result returns)
+pub rest_spec : {M : Type 1} → statement M
+rest_spec = tie.close (tie.spec sub-result returns)

@@ -61,8 +61,8 @@ part-result-end c = search body-within
 returns : tie.Need-returns
 returns c = search body-there
 
-pub body-of-spec : {M : Type 1} → statement M
-body-of-spec =
+pub body_of_spec : {M : Type 1} → statement M
+body_of_spec =
     tie.close
     (tie.spec
     mul_at

@@ -55,8 +55,8 @@ returns-2 c =
     let e = refused-parse _ _ c.before.before.before.read.ensures.0 c.before.verdict.given.1 in
     rw (clean-unread _ _ e) (refl, refl)
 
-pub clean-spec : {M : Type 1} → statement M
-clean-spec =
+pub clean_spec : {M : Type 1} → statement M
+clean_spec =
     tie.close
     (tie.spec
     read-requires

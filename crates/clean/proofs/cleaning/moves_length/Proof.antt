@@ -46,8 +46,8 @@ loop-again c = search moves_next
 returns : tie.Need-returns invariant-loop decreases-loop
 returns c = moves-counted _ _ c.before.loop.invariant c.before.before.before.before.requires c.loop-test.false
 
-pub moves-length-spec : {M : Type 1} → statement M
-moves-length-spec =
+pub moves_length_spec : {M : Type 1} → statement M
+moves_length_spec =
     tie.close
     (tie.spec
     invariant-loop

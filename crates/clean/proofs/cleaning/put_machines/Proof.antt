@@ -51,8 +51,8 @@ returns c =
     let at-loop = c.before in
     machines-put _ _ _ at-loop.before.before.before.before.requires.1 at-loop.loop.invariant c.loop-test.false
 
-pub put-machines-spec : {M : Type 1} → statement M
-put-machines-spec =
+pub put_machines_spec : {M : Type 1} → statement M
+put_machines_spec =
     tie.close
     (tie.spec
     invariant-loop

@@ -37,8 +37,8 @@ same_length c = c.before.loop.invariant.size
 returns : tie.Need-returns invariant-loop decreases-loop
 returns c = put-end _ _ _ _ c.before.loop.invariant c.loop-test.false
 
-pub put-moves-spec : {M : Type 1} → statement M
-put-moves-spec =
+pub put_moves_spec : {M : Type 1} → statement M
+put_moves_spec =
     tie.close
     (tie.spec
     invariant-loop

@@ -28,8 +28,8 @@ returns c =
     let room = at-header.before.before.before.before.requires in
     record-put _ _ _ _ at-header.put-header.ensures at-put.put-bytes.ensures room
 
-pub put-record-spec : {M : Type 1} → statement M
-put-record-spec =
+pub put_record_spec : {M : Type 1} → statement M
+put_record_spec =
     tie.close
     (tie.spec
     put-header-requires

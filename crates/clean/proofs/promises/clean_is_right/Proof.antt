@@ -5,5 +5,5 @@ use Rattle.clean.proofs.promises.clean_is_right.Tie as tie
 returns : tie.Need-returns
 returns c = cleans-right
 
-pub clean-is-right-spec : {M : Type 1} → statement M
-clean-is-right-spec = tie.close (tie.spec returns)
+pub clean_is_right_spec : {M : Type 1} → statement M
+clean_is_right_spec = tie.close (tie.spec returns)

@@ -70,8 +70,8 @@ returns-2 c =
           at-put.put-mode.ensures,
     )
 
-pub act-spec : {M : Type 1} → statement M
-act-spec =
+pub act_spec : {M : Type 1} → statement M
+act_spec =
     tie.close
     (tie.spec
     slice-aggregate-places

@@ -66,8 +66,8 @@ loop-again c d i =
 returns-3 : tie.Need-returns-3 invariant-loop decreases-loop
 returns-3 c d i = unanswered-end i (c.before.loop.invariant d i) c.loop-test.false
 
-pub acting-spec : {M : Type 1} → statement M
-acting-spec =
+pub acting_spec : {M : Type 1} → statement M
+acting_spec =
     tie.close
     (tie.spec
     invariant-loop

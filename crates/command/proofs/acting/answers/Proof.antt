@@ -29,8 +29,8 @@ returns-2 c =
     needs-left _ _ _ _ _ at-if2.before.before.if1.false at-if2.if2.false c.before.if3.false
     c.ready.ensures
 
-pub answers-spec : {M : Type 1} → statement M
-answers-spec =
+pub answers_spec : {M : Type 1} → statement M
+answers_spec =
     tie.close
     (tie.spec
     shared-slice-read-if1

@@ -36,8 +36,8 @@ returns-2 c =
     let e = refused-parse _ _ c.before.before.before.read.ensures.0 c.before.verdict.given.1 in
     rw ((sheet-before _ _ _ e).1 _ _ _) (refl, refl)
 
-pub apply-spec : {M : Type 1} → statement M
-apply-spec =
+pub apply_spec : {M : Type 1} → statement M
+apply_spec =
     tie.close
     (tie.spec
     read-requires

@@ -52,8 +52,8 @@ loop-again c = search holding-next
 returns-2 : tie.Need-returns-2 invariant-loop decreases-loop
 returns-2 c = holding-end c.before.loop.invariant c.loop-test.false
 
-pub ready-spec : {M : Type 1} → statement M
-ready-spec =
+pub ready_spec : {M : Type 1} → statement M
+ready_spec =
     tie.close
     (tie.spec
     invariant-loop

@@ -57,8 +57,8 @@ returns-2 c =
       λ d i. refused-leaves d _ _ _ (check d (indexes-modes i) (indexes-machines i)) turned,
     )
 
-pub test-spec : {M : Type 1} → statement M
-test-spec =
+pub test_spec : {M : Type 1} → statement M
+test_spec =
     tie.close
     (tie.spec
     slice-aggregate-check

@@ -220,8 +220,8 @@ returns-2 c m goal o passes allows =
     stood.present.ensures asked.gathered.ensures (omega (arith, asked.gathered.ok))
     allows (at-unmet grouped).unmet.ensures)
 
-pub advise-spec : {M : Type 1} → statement M
-advise-spec =
+pub advise_spec : {M : Type 1} → statement M
+advise_spec =
     tie.close
     (tie.spec
     array-share-prefix-numbers

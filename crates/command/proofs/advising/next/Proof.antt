@@ -26,7 +26,7 @@ returns-2 c =
     let e = refused-parse _ _ c.before.before.before.read.ensures.0 c.before.verdict.given.1 in
     sym ((sheet-before _ _ _ e).0 _ _ _)
 
-pub next-spec : {M : Type 1} → statement M
-next-spec =
+pub next_spec : {M : Type 1} → statement M
+next_spec =
     tie.close
     (tie.spec read-requires enum-known-verdict enum_told test-shape-requires returns returns-2)

@@ -146,8 +146,8 @@ returns-2 c m goal q =
     (pursued-uncertain q (sought allowed) (at-numbers allowed).numbers.ensures at-failed.failed.ensures))
     at-verdict.verdict.given.1 _)
 
-pub pursue-spec : {M : Type 1} → statement M
-pursue-spec =
+pub pursue_spec : {M : Type 1} → statement M
+pursue_spec =
     tie.close
     (tie.spec
     numbers-requires

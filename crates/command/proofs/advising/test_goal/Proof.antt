@@ -73,8 +73,8 @@ returns-2 c m o passes =
     goal-refused m _ _ _ _ passes (at-check.check.ensures m (indexes-modes i) (indexes-machines i))
     at-verdict.verdict.given.1
 
-pub test-goal-spec : {M : Type 1} → statement M
-test-goal-spec =
+pub test_goal_spec : {M : Type 1} → statement M
+test_goal_spec =
     tie.close
     (tie.spec
     slice-aggregate-check

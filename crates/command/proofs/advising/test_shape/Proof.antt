@@ -103,8 +103,8 @@ returns-3 c =
     let p = (start-2 shown.before).requires in
     c.test-state.ensures p.0 (opened shown) ∙ sym (shape-passed p.1 _ _ _ (opened shown).shaped)
 
-pub test-shape-spec : {M : Type 1} → statement M
-test-shape-spec =
+pub test_shape_spec : {M : Type 1} → statement M
+test_shape_spec =
     tie.close
     (tie.spec
     numbers-fit-requires

@@ -45,8 +45,8 @@ returns-2 c m o =
     state-refused m _ _ _ _ (at-check.check.ensures m (indexes-modes i) (indexes-machines i))
     at-verdict.verdict.given.1
 
-pub test-state-spec : {M : Type 1} → statement M
-test-state-spec =
+pub test_state_spec : {M : Type 1} → statement M
+test_state_spec =
     tie.close
     (tie.spec
     slice-aggregate-check

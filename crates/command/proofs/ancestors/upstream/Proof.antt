@@ -18,6 +18,6 @@ pass-requires c κs = search rules
 returns : tie.Need-returns
 returns c = search one_end
 
-pub upstream-spec : {M : Type 1} → statement M
-upstream-spec =
+pub upstream_spec : {M : Type 1} → statement M
+upstream_spec =
     tie.close (tie.spec wide-requires mul-pass shared-slice-read-pass pass-requires returns)

@@ -9,5 +9,5 @@ pass-requires c κs = search rules
 returns : tie.Need-returns
 returns c = search some_end
 
-pub upstream-of-spec : {M : Type 1} → statement M
-upstream-of-spec = tie.close (tie.spec pass-requires returns)
+pub upstream_of_spec : {M : Type 1} → statement M
+upstream_of_spec = tie.close (tie.spec pass-requires returns)

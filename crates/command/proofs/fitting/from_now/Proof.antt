@@ -21,8 +21,8 @@ shared-slice-read-result-2 c = search rules
 returns-2 : tie.Need-returns-2
 returns-2 c = search start-own
 
-pub from-now-spec : {M : Type 1} → statement M
-from-now-spec =
+pub from_now_spec : {M : Type 1} → statement M
+from_now_spec =
     tie.close
     (tie.spec
     shared-slice-read-result

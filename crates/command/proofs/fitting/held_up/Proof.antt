@@ -68,8 +68,8 @@ loop-again c =
 returns : tie.Need-returns invariant-loop decreases-loop
 returns c = search held-end
 
-pub held-up-spec : {M : Type 1} → statement M
-held-up-spec =
+pub held_up_spec : {M : Type 1} → statement M
+held_up_spec =
     tie.close
     (tie.spec
     invariant-loop

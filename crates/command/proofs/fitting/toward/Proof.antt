@@ -44,8 +44,8 @@ returns c m state zeros goal kept h a =
     kept_entry kept h tab.before.before.wide.ensures.0 tab.before.before.before.type_size.ensures.0
     tab.table.ensures c.before.mode-now.ensures.0 a c.nearest.ensures
 
-pub toward-spec : {M : Type 1} → statement M
-toward-spec =
+pub toward_spec : {M : Type 1} → statement M
+toward_spec =
     tie.close
     (tie.spec
     size-of-requires

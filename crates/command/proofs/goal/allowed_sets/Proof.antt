@@ -82,8 +82,8 @@ loop-again c = search (sets-next, taken-rest)
 returns : tie.Need-returns invariant-loop decreases-loop
 returns c = search sets_end
 
-pub allowed-sets-spec : {M : Type 1} → statement M
-allowed-sets-spec =
+pub allowed_sets_spec : {M : Type 1} → statement M
+allowed_sets_spec =
     tie.close
     (tie.spec
     invariant-loop

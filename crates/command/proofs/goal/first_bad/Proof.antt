@@ -48,8 +48,8 @@ loop-again c = (search rules, search good-next)
 returns-2 : tie.Need-returns-2 invariant-loop decreases-loop
 returns-2 c = good-end c.before.loop.invariant.1 c.before.loop.invariant.0 c.loop-test.false
 
-pub first-bad-spec : {M : Type 1} → statement M
-first-bad-spec =
+pub first_bad_spec : {M : Type 1} → statement M
+first_bad_spec =
     tie.close
     (tie.spec
     invariant-loop

@@ -24,7 +24,7 @@ cast-result c = search below-byte
 returns-2 : tie.Need-returns-2
 returns-2 c = search wished-past
 
-pub mask-of-spec : {M : Type 1} → statement M
-mask-of-spec =
+pub mask_of_spec : {M : Type 1} → statement M
+mask_of_spec =
     tie.close
     (tie.spec wide-requires shared-slice-read-result returns wide-requires-2 first-requires cast-result returns-2)

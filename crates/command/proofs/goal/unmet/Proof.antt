@@ -61,8 +61,8 @@ loop-again c =
 returns : tie.Need-returns invariant-loop decreases-loop
 returns c = search unmet-end
 
-pub unmet-spec : {M : Type 1} → statement M
-unmet-spec =
+pub unmet_spec : {M : Type 1} → statement M
+unmet_spec =
     tie.close
     (tie.spec
     invariant-loop

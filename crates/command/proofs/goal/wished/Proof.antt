@@ -45,8 +45,8 @@ loop-again c =
 returns : tie.Need-returns invariant-loop decreases-loop
 returns c = wished-end _ _ c.before.before.loop.invariant (omega arith)
 
-pub wished-spec : {M : Type 1} → statement M
-wished-spec =
+pub wished_spec : {M : Type 1} → statement M
+wished_spec =
     tie.close
     (tie.spec
     invariant-loop

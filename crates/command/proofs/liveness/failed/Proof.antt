@@ -73,8 +73,8 @@ loop-again c =
 returns : tie.Need-returns invariant-loop decreases-loop
 returns c = search failed-end
 
-pub failed-spec : {M : Type 1} → statement M
-failed-spec =
+pub failed_spec : {M : Type 1} → statement M
+failed_spec =
     tie.close
     (tie.spec
     invariant-loop

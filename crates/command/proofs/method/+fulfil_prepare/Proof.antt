@@ -277,8 +277,8 @@ module _ (t : ℕ) where
   prepare-returns-2 c m v kept l there same o =
       prepare-fulfils _ kept there same o (topped c.before).highest.ensures (meets c.before) l c.fulfil.ensures
 
-pub +fulfil-prepare-spec : {M : Type 1} → statement M
-+fulfil-prepare-spec =
+pub +fulfil_prepare_spec : {M : Type 1} → statement M
++fulfil_prepare_spec =
     close μ-fulfil μ-prepare
     (λ t.
     fulfil-lts.spec (fulfil-calls t) (fulfil-at t) fulfil.Post

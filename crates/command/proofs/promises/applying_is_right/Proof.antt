@@ -5,5 +5,5 @@ use Rattle.command.proofs.promises.applying_is_right.Tie as tie
 returns : tie.Need-returns
 returns c = applies-right
 
-pub applying-is-right-spec : {M : Type 1} → statement M
-applying-is-right-spec = tie.close (tie.spec returns)
+pub applying_is_right_spec : {M : Type 1} → statement M
+applying_is_right_spec = tie.close (tie.spec returns)

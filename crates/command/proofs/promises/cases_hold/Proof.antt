@@ -5,5 +5,5 @@ use Rattle.command.proofs.promises.cases_hold.Tie as tie
 returns : tie.Need-returns
 returns c = cases-hold
 
-pub cases-hold-spec : {M : Type 1} → statement M
-cases-hold-spec = tie.close (tie.spec returns)
+pub cases_hold_spec : {M : Type 1} → statement M
+cases_hold_spec = tie.close (tie.spec returns)

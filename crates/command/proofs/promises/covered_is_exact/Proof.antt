@@ -5,5 +5,5 @@ use Rattle.command.proofs.promises.covered_is_exact.Tie as tie
 returns : tie.Need-returns
 returns c = exactly-covered
 
-pub covered-is-exact-spec : {M : Type 1} → statement M
-covered-is-exact-spec = tie.close (tie.spec returns)
+pub covered_is_exact_spec : {M : Type 1} → statement M
+covered_is_exact_spec = tie.close (tie.spec returns)

@@ -5,5 +5,5 @@ use Rattle.command.proofs.promises.every_run_arrives.Tie as tie
 returns : tie.Need-returns
 returns c = arrival
 
-pub every-run-arrives-spec : {M : Type 1} → statement M
-every-run-arrives-spec = tie.close (tie.spec returns)
+pub every_run_arrives_spec : {M : Type 1} → statement M
+every_run_arrives_spec = tie.close (tie.spec returns)

@@ -5,5 +5,5 @@ use Rattle.command.proofs.promises.faulty_bytes_are_turned_down.Tie as tie
 returns : tie.Need-returns
 returns c = turned_down
 
-pub faulty-bytes-are-turned-down-spec : {M : Type 1} → statement M
-faulty-bytes-are-turned-down-spec = tie.close (tie.spec returns)
+pub faulty_bytes_are_turned_down_spec : {M : Type 1} → statement M
+faulty_bytes_are_turned_down_spec = tie.close (tie.spec returns)

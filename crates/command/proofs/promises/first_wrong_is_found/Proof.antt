@@ -5,5 +5,5 @@ use Rattle.command.proofs.promises.first_wrong_is_found.Tie as tie
 returns : tie.Need-returns
 returns c = first_found
 
-pub first-wrong-is-found-spec : {M : Type 1} → statement M
-first-wrong-is-found-spec = tie.close (tie.spec returns)
+pub first_wrong_is_found_spec : {M : Type 1} → statement M
+first_wrong_is_found_spec = tie.close (tie.spec returns)

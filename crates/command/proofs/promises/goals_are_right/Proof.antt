@@ -5,5 +5,5 @@ use Rattle.command.proofs.promises.goals_are_right.Tie as tie
 returns : tie.Need-returns
 returns c = goals-right
 
-pub goals-are-right-spec : {M : Type 1} → statement M
-goals-are-right-spec = tie.close (tie.spec returns)
+pub goals_are_right_spec : {M : Type 1} → statement M
+goals_are_right_spec = tie.close (tie.spec returns)

@@ -5,5 +5,5 @@ use Rattle.command.proofs.promises.goals_pass.Tie as tie
 returns : tie.Need-returns
 returns c = goal-passes
 
-pub goals-pass-spec : {M : Type 1} → statement M
-goals-pass-spec = tie.close (tie.spec returns)
+pub goals_pass_spec : {M : Type 1} → statement M
+goals_pass_spec = tie.close (tie.spec returns)

@@ -5,5 +5,5 @@ use Rattle.command.proofs.promises.lawful_plans_arrive.Tie as tie
 returns : tie.Need-returns
 returns c = arrival-by-laws
 
-pub lawful-plans-arrive-spec : {M : Type 1} → statement M
-lawful-plans-arrive-spec = tie.close (tie.spec returns)
+pub lawful_plans_arrive_spec : {M : Type 1} → statement M
+lawful_plans_arrive_spec = tie.close (tie.spec returns)

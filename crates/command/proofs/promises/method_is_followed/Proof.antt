@@ -5,5 +5,5 @@ use Rattle.command.proofs.promises.method_is_followed.Tie as tie
 returns : tie.Need-returns
 returns c = method-followed
 
-pub method-is-followed-spec : {M : Type 1} → statement M
-method-is-followed-spec = tie.close (tie.spec returns)
+pub method_is_followed_spec : {M : Type 1} → statement M
+method_is_followed_spec = tie.close (tie.spec returns)

@@ -5,5 +5,5 @@ use Rattle.command.proofs.promises.sheet_comes_first.Tie as tie
 returns : tie.Need-returns
 returns c = sheet-before
 
-pub sheet-comes-first-spec : {M : Type 1} → statement M
-sheet-comes-first-spec = tie.close (tie.spec returns)
+pub sheet_comes_first_spec : {M : Type 1} → statement M
+sheet_comes_first_spec = tie.close (tie.spec returns)

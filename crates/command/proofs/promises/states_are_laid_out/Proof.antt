@@ -5,5 +5,5 @@ use Rattle.command.proofs.promises.states_are_laid_out.Tie as tie
 returns : tie.Need-returns
 returns c = laid_out
 
-pub states-are-laid-out-spec : {M : Type 1} → statement M
-states-are-laid-out-spec = tie.close (tie.spec returns)
+pub states_are_laid_out_spec : {M : Type 1} → statement M
+states_are_laid_out_spec = tie.close (tie.spec returns)

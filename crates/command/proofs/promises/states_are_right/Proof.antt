@@ -5,5 +5,5 @@ use Rattle.command.proofs.promises.states_are_right.Tie as tie
 returns : tie.Need-returns
 returns c = states-right
 
-pub states-are-right-spec : {M : Type 1} → statement M
-states-are-right-spec = tie.close (tie.spec returns)
+pub states_are_right_spec : {M : Type 1} → statement M
+states_are_right_spec = tie.close (tie.spec returns)

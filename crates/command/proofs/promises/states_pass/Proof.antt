@@ -5,5 +5,5 @@ use Rattle.command.proofs.promises.states_pass.Tie as tie
 returns : tie.Need-returns
 returns c = state-passes
 
-pub states-pass-spec : {M : Type 1} → statement M
-states-pass-spec = tie.close (tie.spec returns)
+pub states_pass_spec : {M : Type 1} → statement M
+states_pass_spec = tie.close (tie.spec returns)

@@ -5,5 +5,5 @@ use Rattle.command.proofs.promises.tagged_machines_stay.Tie as tie
 returns : tie.Need-returns
 returns c = never-tagged
 
-pub tagged-machines-stay-spec : {M : Type 1} → statement M
-tagged-machines-stay-spec = tie.close (tie.spec returns)
+pub tagged_machines_stay_spec : {M : Type 1} → statement M
+tagged_machines_stay_spec = tie.close (tie.spec returns)

@@ -5,5 +5,5 @@ use Rattle.command.proofs.promises.uncovered_is_refused.Tie as tie
 returns : tie.Need-returns
 returns c = uncovered
 
-pub uncovered-is-refused-spec : {M : Type 1} → statement M
-uncovered-is-refused-spec = tie.close (tie.spec returns)
+pub uncovered_is_refused_spec : {M : Type 1} → statement M
+uncovered_is_refused_spec = tie.close (tie.spec returns)

@@ -5,5 +5,5 @@ use Rattle.command.proofs.promises.upstream_is_right.Tie as tie
 returns : tie.Need-returns
 returns c = upstream-right
 
-pub upstream-is-right-spec : {M : Type 1} → statement M
-upstream-is-right-spec = tie.close (tie.spec returns)
+pub upstream_is_right_spec : {M : Type 1} → statement M
+upstream_is_right_spec = tie.close (tie.spec returns)

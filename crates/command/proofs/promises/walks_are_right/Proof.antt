@@ -5,5 +5,5 @@ use Rattle.command.proofs.promises.walks_are_right.Tie as tie
 returns : tie.Need-returns
 returns c = walks-right
 
-pub walks-are-right-spec : {M : Type 1} → statement M
-walks-are-right-spec = tie.close (tie.spec returns)
+pub walks_are_right_spec : {M : Type 1} → statement M
+walks_are_right_spec = tie.close (tie.spec returns)

@@ -58,8 +58,8 @@ loop-again c = search gathered_next
 returns : tie.Need-returns invariant-loop decreases-loop
 returns c = gathered-end _ _ _ _ c.before.loop.invariant c.loop-test.false c.before.before.requires
 
-pub gathered-spec : {M : Type 1} → statement M
-gathered-spec =
+pub gathered_spec : {M : Type 1} → statement M
+gathered_spec =
     tie.close
     (tie.spec
     invariant-loop

@@ -20,5 +20,5 @@ returns : tie.Need-returns
 unfolding present_in
 returns c = (search read_at, search rules)
 
-pub mode-now-spec : {M : Type 1} → statement M
-mode-now-spec = tie.close (tie.spec wide-requires add_wide shared-slice-read-wide wide-requires-2 returns)
+pub mode_now_spec : {M : Type 1} → statement M
+mode_now_spec = tie.close (tie.spec wide-requires add_wide shared-slice-read-wide wide-requires-2 returns)

@@ -20,5 +20,5 @@ returns : tie.Need-returns
 unfolding numbers_in part
 returns c = ap (λ n. take n c.before.before.before.before.args.facts.now) c.before.machines-in.ensures
 
-pub numbers-spec : {M : Type 1} → statement M
-numbers-spec = tie.close (tie.spec machines-in-requires slice-aggregate-result returns)
+pub numbers_spec : {M : Type 1} → statement M
+numbers_spec = tie.close (tie.spec machines-in-requires slice-aggregate-result returns)

@@ -20,5 +20,5 @@ returns : tie.Need-returns
 unfolding size_in
 returns c = (search read_at, search rules)
 
-pub size-of-spec : {M : Type 1} → statement M
-size-of-spec = tie.close (tie.spec wide-requires add_wide shared-slice-read-wide wide-requires-2 returns)
+pub size_of_spec : {M : Type 1} → statement M
+size_of_spec = tie.close (tie.spec wide-requires add_wide shared-slice-read-wide wide-requires-2 returns)

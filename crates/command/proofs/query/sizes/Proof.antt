@@ -18,5 +18,5 @@ returns : tie.Need-returns
 unfolding sizes_in part
 returns c = refl
 
-pub sizes-spec : {M : Type 1} → statement M
-sizes-spec = tie.close (tie.spec sub-result part-result-start part-result-end returns)
+pub sizes_spec : {M : Type 1} → statement M
+sizes_spec = tie.close (tie.spec sub-result part-result-start part-result-end returns)

@@ -18,5 +18,5 @@ returns : tie.Need-returns
 unfolding weights_in part
 returns c = refl
 
-pub weights-spec : {M : Type 1} → statement M
-weights-spec = tie.close (tie.spec sub-result part-result-start part-result-end returns)
+pub weights_spec : {M : Type 1} → statement M
+weights_spec = tie.close (tie.spec sub-result part-result-start part-result-end returns)

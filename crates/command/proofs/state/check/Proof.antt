@@ -18,5 +18,5 @@ returns-2 c m q e = pair-refused m _ e c.before.before.if1.false (c.before.first
 returns-3 : tie.Need-returns-3
 returns-3 c m q e = state-accepted m _ e c.before.before.if1.false (c.before.first-bad.ensures m q) c.if2.false
 
-pub check-spec : {M : Type 1} → statement M
-check-spec = tie.close (tie.spec mul-if1 returns first-bad-requires returns-2 returns-3)
+pub check_spec : {M : Type 1} → statement M
+check_spec = tie.close (tie.spec mul-if1 returns first-bad-requires returns-2 returns-3)

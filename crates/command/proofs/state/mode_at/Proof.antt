@@ -20,5 +20,5 @@ returns c =
     let state = c.before.before.before.args.state.now in
     ap (λ i. byte state (2 * i)) c.before.wide.ensures.0 ∙ sym (mode-place state _)
 
-pub mode-at-spec : {M : Type 1} → statement M
-mode-at-spec = tie.close (tie.spec wide-requires mul-result shared-slice-read-result returns)
+pub mode_at_spec : {M : Type 1} → statement M
+mode_at_spec = tie.close (tie.spec wide-requires mul-result shared-slice-read-result returns)

@@ -20,5 +20,5 @@ returns c =
     let state = c.before.before.before.args.state.now in
     c.byte_at.ensures ∙ ap (λ i. byte state (2 * i)) c.before.wide.ensures.0 ∙ sym (mode-place state _)
 
-pub mode-of-spec : {M : Type 1} → statement M
-mode-of-spec = tie.close (tie.spec wide-requires mul-byte-at byte-at-requires returns)
+pub mode_of_spec : {M : Type 1} → statement M
+mode_of_spec = tie.close (tie.spec wide-requires mul-byte-at byte-at-requires returns)

@@ -66,8 +66,8 @@ loop-again c = search present-next
 returns : tie.Need-returns invariant-loop decreases-loop
 returns c m w passes = search present-end
 
-pub present-spec : {M : Type 1} → statement M
-present-spec =
+pub present_spec : {M : Type 1} → statement M
+present_spec =
     tie.close
     (tie.spec
     invariant-loop

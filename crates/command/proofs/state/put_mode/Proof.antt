@@ -22,5 +22,5 @@ returns : tie.Need-returns
 unfolding with_mode
 returns c = ap (λ i. set c.before.before.args.state.now (2 * i) c.before.before.args.mode) c.wide.ensures.0
 
-pub put-mode-spec : {M : Type 1} → statement M
-put-mode-spec = tie.close (tie.spec wide-requires mul-i slice-write-state same_length returns)
+pub put_mode_spec : {M : Type 1} → statement M
+put_mode_spec = tie.close (tie.spec wide-requires mul-i slice-write-state same_length returns)

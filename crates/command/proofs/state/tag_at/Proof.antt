@@ -23,5 +23,5 @@ returns c =
     let state = c.before.before.before.args.state.now in
     ap (λ i. byte state (2 * i + 1)) c.before.wide.ensures.0 ∙ sym (tag-place state _)
 
-pub tag-at-spec : {M : Type 1} → statement M
-tag-at-spec = tie.close (tie.spec wide-requires mul-result add-result shared-slice-read-result returns)
+pub tag_at_spec : {M : Type 1} → statement M
+tag_at_spec = tie.close (tie.spec wide-requires mul-result add-result shared-slice-read-result returns)

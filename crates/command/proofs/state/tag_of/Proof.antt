@@ -23,5 +23,5 @@ returns c =
     let state = c.before.before.before.args.state.now in
     c.byte_at.ensures ∙ ap (λ i. byte state (2 * i + 1)) c.before.wide.ensures.0 ∙ sym (tag-place state _)
 
-pub tag-of-spec : {M : Type 1} → statement M
-tag-of-spec = tie.close (tie.spec wide-requires mul-byte-at add-byte-at byte-at-requires returns)
+pub tag_of_spec : {M : Type 1} → statement M
+tag_of_spec = tie.close (tie.spec wide-requires mul-byte-at add-byte-at byte-at-requires returns)

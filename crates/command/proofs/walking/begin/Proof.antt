@@ -36,8 +36,8 @@ returns-2 c =
     rw (front-told _ at_length.before.before.plan-length.ensures at_length.length2.given.1 _ _)
     at-begin-with.begin-with.ensures
 
-pub begin-spec : {M : Type 1} → statement M
-begin-spec =
+pub begin_spec : {M : Type 1} → statement M
+begin_spec =
     tie.close
     (tie.spec
     plan-length-requires

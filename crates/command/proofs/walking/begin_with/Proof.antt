@@ -66,8 +66,8 @@ returns-2 c =
     start-refused _ _ (start planned).args.scratch.now _ _ (at-smaller planned).smaller.ensures p.0
     c.before.planned.given.1 p.1.0 p.1.1
 
-pub begin-with-spec : {M : Type 1} → statement M
-begin-with-spec =
+pub begin_with_spec : {M : Type 1} → statement M
+begin_with_spec =
     tie.close
     (tie.spec
     smaller-requires

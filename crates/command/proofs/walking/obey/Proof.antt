@@ -38,8 +38,8 @@ returns-3 c =
     let apply = c.before.before.before.before.before.apply in
     obeyed-by _ _ _ _ apply.result _ apply.ensures.0 c.before.change.given.1 apply.ensures.1
 
-pub obey-spec : {M : Type 1} → statement M
-obey-spec =
+pub obey_spec : {M : Type 1} → statement M
+obey_spec =
     tie.close
     (tie.spec
     apply-requires

@@ -5,5 +5,5 @@ use Rattle.common.proofs.promises.distances_are_right.Tie as tie
 returns : tie.Need-returns
 returns c = distances-right
 
-pub distances-are-right-spec : {M : Type 1} → statement M
-distances-are-right-spec = tie.close (tie.spec returns)
+pub distances_are_right_spec : {M : Type 1} → statement M
+distances_are_right_spec = tie.close (tie.spec returns)

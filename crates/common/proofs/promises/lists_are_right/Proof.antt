@@ -6,5 +6,5 @@ use Rattle.common.proofs.promises.lists_are_right.Tie as tie
 returns : tie.Need-returns
 returns c = lists-right ℕ
 
-pub lists-are-right-spec : {M : Type 1} → statement M
-lists-are-right-spec = tie.close (tie.spec returns)
+pub lists_are_right_spec : {M : Type 1} → statement M
+lists_are_right_spec = tie.close (tie.spec returns)

@@ -6,5 +6,5 @@ use Rattle.common.proofs.promises.replies_are_right.Tie as tie
 returns : tie.Need-returns
 returns c = replies-right ℕ ℕ
 
-pub replies-are-right-spec : {M : Type 1} → statement M
-replies-are-right-spec = tie.close (tie.spec returns)
+pub replies_are_right_spec : {M : Type 1} → statement M
+replies_are_right_spec = tie.close (tie.spec returns)

@@ -5,5 +5,5 @@ use Rattle.decimal.proofs.promises.decimals_are_right.Tie as tie
 returns : tie.Need-returns
 returns c = decimals-right
 
-pub decimals-are-right-spec : {M : Type 1} → statement M
-decimals-are-right-spec = tie.close (tie.spec returns)
+pub decimals_are_right_spec : {M : Type 1} → statement M
+decimals_are_right_spec = tie.close (tie.spec returns)

@@ -14,5 +14,5 @@ returns c = search rules
 returns-2 : tie.Need-returns-2
 returns-2 c = le-ltb _ _ c.if1.false ∙ no_byte c.before.args.text.now c.if1.false c.before.requires
 
-pub has-spec : {M : Type 1} → statement M
-has-spec = tie.close (tie.spec shared-slice-read-result returns returns-2)
+pub has_spec : {M : Type 1} → statement M
+has_spec = tie.close (tie.spec shared-slice-read-result returns returns-2)

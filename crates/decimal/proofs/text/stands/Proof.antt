@@ -45,8 +45,8 @@ loop-again c = search stand-next
 returns-2 : tie.Need-returns-2 invariant-loop decreases-loop
 returns-2 c = search stand-end
 
-pub stands-spec : {M : Type 1} → statement M
-stands-spec =
+pub stands_spec : {M : Type 1} → statement M
+stands_spec =
     tie.close
     (tie.spec
     invariant-loop

@@ -32,8 +32,8 @@ loop-again c = search left-next
 returns-2 : tie.Need-returns-2 invariant-loop decreases-loop
 returns-2 c = without-missing c.before.loop.invariant c.loop-test.false
 
-pub first-without-spec : {M : Type 1} → statement M
-first-without-spec =
+pub first_without_spec : {M : Type 1} → statement M
+first_without_spec =
     tie.close
     (tie.spec
     invariant-loop

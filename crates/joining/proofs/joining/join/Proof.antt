@@ -51,8 +51,8 @@ returns-2 c =
     let e = refused-parse _ _ c.before.before.before.read.ensures.0 c.before.verdict.given.1 in
     rw (join-unread _ _ _ e) (refl, refl)
 
-pub join-spec : {M : Type 1} → statement M
-join-spec =
+pub join_spec : {M : Type 1} → statement M
+join_spec =
     tie.close
     (tie.spec
     read-requires

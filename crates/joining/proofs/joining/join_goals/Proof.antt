@@ -82,8 +82,8 @@ returns-3 c =
       λ m q e. refusal-leaves _ (each-refused m _ holds _ (told ∙ said at-check m q e)),
     )
 
-pub join-goals-spec : {M : Type 1} → statement M
-join-goals-spec =
+pub join_goals_spec : {M : Type 1} → statement M
+join_goals_spec =
     tie.close
     (tie.spec
     whole-requires

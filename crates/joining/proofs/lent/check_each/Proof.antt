@@ -42,8 +42,8 @@ loop-again c = search passed-next
 returns-2 : tie.Need-returns-2 invariant-loop decreases-loop
 returns-2 c = search passed-end
 
-pub check-each-spec : {M : Type 1} → statement M
-check-each-spec =
+pub check_each_spec : {M : Type 1} → statement M
+check_each_spec =
     tie.close
     (tie.spec
     invariant-loop

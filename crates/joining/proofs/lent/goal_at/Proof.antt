@@ -21,7 +21,7 @@ part-result-end c = search rules
 returns : tie.Need-returns
 returns c = search part-between
 
-pub goal-at-spec : {M : Type 1} → statement M
-goal-at-spec =
+pub goal_at_spec : {M : Type 1} → statement M
+goal_at_spec =
     tie.close
     (tie.spec add_start behind-requires sub-result part-result-start part-result-end returns)

@@ -36,8 +36,8 @@ loop-again c = search shared-next
 returns : tie.Need-returns invariant-loop decreases-loop
 returns c = search shared-end
 
-pub shared-spec : {M : Type 1} → statement M
-shared-spec =
+pub shared_spec : {M : Type 1} → statement M
+shared_spec =
     tie.close
     (tie.spec
     invariant-loop

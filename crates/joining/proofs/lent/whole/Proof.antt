@@ -30,8 +30,8 @@ loop-again c = search whole-next
 returns-2 : tie.Need-returns-2 invariant-loop decreases-loop
 returns-2 c = search whole-end
 
-pub whole-spec : {M : Type 1} → statement M
-whole-spec =
+pub whole_spec : {M : Type 1} → statement M
+whole_spec =
     tie.close
     (tie.spec
     invariant-loop

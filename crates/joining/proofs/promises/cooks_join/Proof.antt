@@ -5,5 +5,5 @@ use Rattle.joining.proofs.promises.cooks_join.Tie as tie
 returns : tie.Need-returns
 returns c = cooks-join
 
-pub cooks-join-spec : {M : Type 1} → statement M
-cooks-join-spec = tie.close (tie.spec returns)
+pub cooks_join_spec : {M : Type 1} → statement M
+cooks_join_spec = tie.close (tie.spec returns)

@@ -5,5 +5,5 @@ use Rattle.joining.proofs.promises.joins_are_right.Tie as tie
 returns : tie.Need-returns
 returns c = joins-right
 
-pub joins-are-right-spec : {M : Type 1} → statement M
-joins-are-right-spec = tie.close (tie.spec returns)
+pub joins_are_right_spec : {M : Type 1} → statement M
+joins_are_right_spec = tie.close (tie.spec returns)

@@ -5,5 +5,5 @@ use Rattle.joining.proofs.promises.outputs_are_left_right.Tie as tie
 returns : tie.Need-returns
 returns c = join-left
 
-pub outputs-are-left-right-spec : {M : Type 1} → statement M
-outputs-are-left-right-spec = tie.close (tie.spec returns)
+pub outputs_are_left_right_spec : {M : Type 1} → statement M
+outputs_are_left_right_spec = tie.close (tie.spec returns)

@@ -5,5 +5,5 @@ use Rattle.panel.proofs.promises.amended_is_clean.Tie as tie
 returns : tie.Need-returns
 returns c = amended-same
 
-pub amended-is-clean-spec : {M : Type 1} → statement M
-amended-is-clean-spec = tie.close (tie.spec returns)
+pub amended_is_clean_spec : {M : Type 1} → statement M
+amended_is_clean_spec = tie.close (tie.spec returns)

@@ -5,5 +5,5 @@ use Rattle.panel.proofs.promises.words_come_apart.Tie as tie
 returns : tie.Need-returns
 returns c = all_apart
 
-pub words-come-apart-spec : {M : Type 1} → statement M
-words-come-apart-spec = tie.close (tie.spec returns)
+pub words_come_apart_spec : {M : Type 1} → statement M
+words_come_apart_spec = tie.close (tie.spec returns)

@@ -37,8 +37,8 @@ returns-2 c =
     let e = refused-parse _ _ c.before.before.before.read.ensures.0 c.before.verdict.given.1 in
     rw (undrawn-reply _ _ e) (refl, refl)
 
-pub draw-spec : {M : Type 1} → statement M
-draw-spec =
+pub draw_spec : {M : Type 1} → statement M
+draw_spec =
     tie.close
     (tie.spec
     read-requires

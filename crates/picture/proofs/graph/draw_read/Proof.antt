@@ -47,8 +47,8 @@ returns c =
     let wrote = at-text.write-text.ensures in
     (λ m i. rw (shows m i) at wrote.0, λ m i. rw (shows m i) at wrote.1)
 
-pub draw-read-spec : {M : Type 1} → statement M
-draw-read-spec =
+pub draw_read_spec : {M : Type 1} → statement M
+draw_read_spec =
     tie.close
     (tie.spec
     slice-aggregate-ordered

@@ -24,6 +24,6 @@ returns-2 c = let start = c.before.before.before.before.before.before.before.bef
     c.before.before.before.before.if1.false in
     rw (shown_read start.requires _ turns) c.before.before.write_bytes.ensures
 
-pub read-matched-spec : {M : Type 1} → statement M
-read-matched-spec =
+pub read_matched_spec : {M : Type 1} → statement M
+read_matched_spec =
     tie.close (tie.spec all-in-turn-requires returns write-bytes-requires same_length returns-2)

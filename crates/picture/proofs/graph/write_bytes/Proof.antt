@@ -62,8 +62,8 @@ returns-2 c =
     (bytes-put start.requires _ (put_byte start.args.out.now _ _ (omega (arith, fits))) at-put.put.ensures
     c.before.before.put-all-pairs.ensures)
 
-pub write-bytes-spec : {M : Type 1} → statement M
-write-bytes-spec =
+pub write_bytes_spec : {M : Type 1} → statement M
+write_bytes_spec =
     tie.close
     (tie.spec
     add-length

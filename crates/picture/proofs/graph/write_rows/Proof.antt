@@ -61,8 +61,8 @@ returns-2 c =
     (text-put _ _ _ at-put.put.ensures at-nodes.put-nodes.ensures at-edges.put-all-edges.ensures
     c.before.before.put2.ensures)
 
-pub write-rows-spec : {M : Type 1} → statement M
-write-rows-spec =
+pub write_rows_spec : {M : Type 1} → statement M
+write_rows_spec =
     tie.close
     (tie.spec
     nodes-length-requires

@@ -37,8 +37,8 @@ returns c =
     let long : length at-members.members.result ≡ 32 = search rules in
     rw (text-rows start.requires at-members.members.ensures long) c.before.before.write-rows.ensures
 
-pub write-text-spec : {M : Type 1} → statement M
-write-text-spec =
+pub write_text_spec : {M : Type 1} → statement M
+write_text_spec =
     tie.close
     (tie.spec
     members-requires

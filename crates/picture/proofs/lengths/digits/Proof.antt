@@ -18,5 +18,5 @@ add-result c = search rules
 returns : tie.Need-returns
 returns c = (search digits-counted, search rules)
 
-pub digits-spec : {M : Type 1} → statement M
-digits-spec = tie.close (tie.spec size-requires down-requires size-requires-2 add-result returns)
+pub digits_spec : {M : Type 1} → statement M
+digits_spec = tie.close (tie.spec size-requires down-requires size-requires-2 add-result returns)

@@ -31,7 +31,7 @@ returns c =
       omega (arith, lines, c.digits.ensures.1),
     )
 
-pub edges-length-spec : {M : Type 1} → statement M
-edges-length-spec =
+pub edges_length_spec : {M : Type 1} → statement M
+edges_length_spec =
     tie.close
     (tie.spec width-requires add-line size-requires mul-result digits-requires add-result returns)

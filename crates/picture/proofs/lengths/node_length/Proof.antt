@@ -26,8 +26,8 @@ returns c =
     let size = c.before.size.ensures.0 in
     (node-adds _ size c.digits.ensures.0 _ c.before.before.width.ensures.0, search rules)
 
-pub node-length-spec : {M : Type 1} → statement M
-node-length-spec =
+pub node_length_spec : {M : Type 1} → statement M
+node_length_spec =
     tie.close
     (tie.spec
     width-requires

@@ -12,5 +12,5 @@ mul-result c = search rules
 returns : tie.Need-returns
 returns c = (pairs-add _ c.size.ensures.0, search rules)
 
-pub pairs-length-spec : {M : Type 1} → statement M
-pairs-length-spec = tie.close (tie.spec size-requires mul-result returns)
+pub pairs_length_spec : {M : Type 1} → statement M
+pairs_length_spec = tie.close (tie.spec size-requires mul-result returns)

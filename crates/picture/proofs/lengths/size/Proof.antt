@@ -11,5 +11,5 @@ cast-result c = let h : ones c.args.set ≤ 64 = search size_small in omega arit
 returns : tie.Need-returns
 returns c = (search size_is, search size_small)
 
-pub size-spec : {M : Type 1} → statement M
-size-spec = tie.close (tie.spec cast-result returns)
+pub size_spec : {M : Type 1} → statement M
+size_spec = tie.close (tie.spec cast-result returns)

@@ -80,8 +80,8 @@ returns c =
     edge-put start.args.out.now _ (omega (arith, start.requires)) _ _ at-put-name.put-name.ensures
     at-put.put.ensures at-put-number.put-number.ensures c.before.before.put2.ensures
 
-pub put-edge-spec : {M : Type 1} → statement M
-put-edge-spec =
+pub put_edge_spec : {M : Type 1} → statement M
+put_edge_spec =
     tie.close
     (tie.spec
     put-name-requires

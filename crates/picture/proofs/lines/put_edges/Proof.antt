@@ -36,8 +36,8 @@ same_length c = c.before.loop.invariant.size
 returns : tie.Need-returns invariant-loop decreases-loop
 returns c = edges-end _ _ _ _ c.before.loop.invariant c.loop-test.false
 
-pub put-edges-spec : {M : Type 1} → statement M
-put-edges-spec =
+pub put_edges_spec : {M : Type 1} → statement M
+put_edges_spec =
     tie.close
     (tie.spec
     invariant-loop

@@ -26,6 +26,6 @@ returns c =
     name-put start.args.out.now _ (omega (arith, start.requires)) _ at-put.put.ensures
     c.before.before.put-number.ensures
 
-pub put-name-spec : {M : Type 1} → statement M
-put-name-spec =
+pub put_name_spec : {M : Type 1} → statement M
+put_name_spec =
     tie.close (tie.spec slice-aggregate-put put-requires put-number-requires same_length returns)

@@ -81,8 +81,8 @@ returns c =
     node-put start.args.out.now _ (omega (arith, start.requires)) _ _ at-put-name.put-name.ensures
     at-put.put.ensures at-put-labels.put-labels.ensures c.before.before.put2.ensures
 
-pub put-node-spec : {M : Type 1} → statement M
-put-node-spec =
+pub put_node_spec : {M : Type 1} → statement M
+put_node_spec =
     tie.close
     (tie.spec
     put-name-requires

@@ -27,5 +27,5 @@ returns c =
     number_put start.args.out.now _ (omega (arith, start.requires)) _ _
     (put_byte start.args.out.now _ _ (omega (arith, start.requires))) c.before.before.put.ensures
 
-pub put-number-spec : {M : Type 1} → statement M
-put-number-spec = tie.close (tie.spec slice-write-out add-put put-requires same_length returns)
+pub put_number_spec : {M : Type 1} → statement M
+put_number_spec = tie.close (tie.spec slice-write-out add-put put-requires same_length returns)

@@ -30,8 +30,8 @@ same_length c = search rules
 returns : tie.Need-returns
 returns c = (refl, pair-written c.args.out.now _ _ _ c.requires.0)
 
-pub put-pair-spec : {M : Type 1} → statement M
-put-pair-spec =
+pub put_pair_spec : {M : Type 1} → statement M
+put_pair_spec =
     tie.close
     (tie.spec
     cast-out

@@ -18,6 +18,6 @@ returns c = search (tests, ← c.before.stands.ensures, c.if1.true)
 returns-2 : tie.Need-returns-2
 returns-2 c = search (tests, ← c.before.stands.ensures, c.if1.false)
 
-pub ends-spec : {M : Type 1} → statement M
-ends-spec =
+pub ends_spec : {M : Type 1} → statement M
+ends_spec =
     tie.close (tie.spec slice-aggregate-stands stands-requires add-result returns returns-2)

@@ -12,5 +12,5 @@ returns c = search (tests, ← c.meet.ensures)
 returns-2 : tie.Need-returns-2
 returns-2 c = search tests
 
-pub is-new-spec : {M : Type 1} → statement M
-is-new-spec = tie.close (tie.spec meet-requires returns returns-2)
+pub is_new_spec : {M : Type 1} → statement M
+is_new_spec = tie.close (tie.spec meet-requires returns returns-2)

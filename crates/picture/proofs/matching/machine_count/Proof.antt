@@ -26,6 +26,6 @@ returns-3 c =
     let top = c.before.before.highest.ensures in
     gapless-is c.before.before.before.before.ranges.s.fits top.1 top.2 c.before.first.ensures c.if2.false
 
-pub machine-count-spec : {M : Type 1} → statement M
-machine-count-spec =
+pub machine_count_spec : {M : Type 1} → statement M
+machine_count_spec =
     tie.close (tie.spec returns highest-requires add-n first-requires returns-2 returns-3)

@@ -30,8 +30,8 @@ returns-2 c = let start = c.before.before.before.before in
     c.if1.false ∙ no_name start.args.text.now start.args.at start.args.k
     (sym c.before.stands.ensures ∙ c.if1.false)
 
-pub names-spec : {M : Type 1} → statement M
-names-spec =
+pub names_spec : {M : Type 1} → statement M
+names_spec =
     tie.close
     (tie.spec
     slice-aggregate-stands

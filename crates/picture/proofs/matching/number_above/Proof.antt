@@ -34,6 +34,6 @@ returns-2 c =
     number-found start.args.text.now start.args.at _ _ start.requires.1 c.before.before.before.read.ensures
     (sym c.before.before.rises.ensures ∙ not-false _ c.before.if1.false) start.requires.0 c.width.ensures.0
 
-pub number-above-spec : {M : Type 1} → statement M
-number-above-spec =
+pub number_above_spec : {M : Type 1} → statement M
+number_above_spec =
     tie.close (tie.spec read-requires rises-requires returns width-requires add-t9 returns-2)

@@ -36,8 +36,8 @@ returns-2 c = let start = c.before.before.before.before.before.before in
     (sym c.before.before.before.before.names.ensures ∙ not-false _ c.before.before.before.if1.false)
     c.stands.ensures
 
-pub opens-edge-spec : {M : Type 1} → statement M
-opens-edge-spec =
+pub opens_edge_spec : {M : Type 1} → statement M
+opens_edge_spec =
     tie.close
     (tie.spec
     names-requires

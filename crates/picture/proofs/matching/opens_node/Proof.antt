@@ -41,8 +41,8 @@ returns-3 c = let start = c.before.before.before.before.before.before.before in
     (sym c.before.before.before.before.names.ensures ∙ not-false _ c.before.before.before.if2.false)
     c.stands.ensures)
 
-pub opens-node-spec : {M : Type 1} → statement M
-opens-node-spec =
+pub opens_node_spec : {M : Type 1} → statement M
+opens_node_spec =
     tie.close
     (tie.spec
     returns

@@ -44,8 +44,8 @@ same-length-2 c = search rules
 returns-2 : tie.Need-returns-2 invariant-loop decreases-loop
 returns-2 c = search edges-end
 
-pub read-edges-spec : {M : Type 1} → statement M
-read-edges-spec =
+pub read_edges_spec : {M : Type 1} → statement M
+read_edges_spec =
     tie.close
     (tie.spec
     invariant-loop

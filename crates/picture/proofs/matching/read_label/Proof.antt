@@ -51,8 +51,8 @@ add-t14 c = search label-behind
 returns-3 : tie.Need-returns-3 invariant-loop decreases-loop
 returns-3 c = search label-ends
 
-pub read-label-spec : {M : Type 1} → statement M
-read-label-spec =
+pub read_label_spec : {M : Type 1} → statement M
+read_label_spec =
     tie.close
     (tie.spec
     invariant-loop

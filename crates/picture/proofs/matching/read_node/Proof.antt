@@ -23,6 +23,6 @@ returns c =
     node-found start.args.text.now start.args.at _ start.requires.2 c.before.width.ensures.0 start.requires.0
     c.read-label.ensures
 
-pub read-node-spec : {M : Type 1} → statement M
-read-node-spec =
+pub read_node_spec : {M : Type 1} → statement M
+read_node_spec =
     tie.close (tie.spec add-read-label width-requires add-read-label-2 read-label-requires returns)

@@ -56,8 +56,8 @@ same-length-2 c = search rules
 returns-2 : tie.Need-returns-2 invariant-loop decreases-loop
 returns-2 c = search nodes-end
 
-pub read-nodes-spec : {M : Type 1} → statement M
-read-nodes-spec =
+pub read_nodes_spec : {M : Type 1} → statement M
+read_nodes_spec =
     tie.close
     (tie.spec
     invariant-loop

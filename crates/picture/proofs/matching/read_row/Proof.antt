@@ -57,8 +57,8 @@ loop-again c = search row_next
 returns-3 : tie.Need-returns-3 invariant-loop decreases-loop
 returns-3 c = search row_ends
 
-pub read-row-spec : {M : Type 1} → statement M
-read-row-spec =
+pub read_row_spec : {M : Type 1} → statement M
+read_row_spec =
     tie.close
     (tie.spec
     invariant-loop

@@ -88,8 +88,8 @@ returns-6 c =
       ends = sym c.before.ends.ensures ∙ not-false _ c.if5.false;
     })
 
-pub read-text-spec : {M : Type 1} → statement M
-read-text-spec =
+pub read_text_spec : {M : Type 1} → statement M
+read_text_spec =
     tie.close
     (tie.spec
     slice-aggregate-stands

@@ -12,5 +12,5 @@ returns c = search (tests, ← c.down.ensures)
 returns-2 : tie.Need-returns-2
 returns-2 c = search tests
 
-pub rises-spec : {M : Type 1} → statement M
-rises-spec = tie.close (tie.spec down-requires returns returns-2)
+pub rises_spec : {M : Type 1} → statement M
+rises_spec = tie.close (tie.spec down-requires returns returns-2)

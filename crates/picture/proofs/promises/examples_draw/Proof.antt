@@ -5,5 +5,5 @@ use Rattle.picture.proofs.promises.examples_draw.Tie as tie
 returns : tie.Need-returns
 returns c = examples-draw
 
-pub examples-draw-spec : {M : Type 1} → statement M
-examples-draw-spec = tie.close (tie.spec returns)
+pub examples_draw_spec : {M : Type 1} → statement M
+examples_draw_spec = tie.close (tie.spec returns)

@@ -5,5 +5,5 @@ use Rattle.picture.proofs.promises.longest_is_right.Tie as tie
 returns : tie.Need-returns
 returns c = longest-right
 
-pub longest-is-right-spec : {M : Type 1} → statement M
-longest-is-right-spec = tie.close (tie.spec returns)
+pub longest_is_right_spec : {M : Type 1} → statement M
+longest_is_right_spec = tie.close (tie.spec returns)

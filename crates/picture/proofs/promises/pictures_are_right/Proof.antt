@@ -5,5 +5,5 @@ use Rattle.picture.proofs.promises.pictures_are_right.Tie as tie
 returns : tie.Need-returns
 returns c = pictures-right
 
-pub pictures-are-right-spec : {M : Type 1} → statement M
-pictures-are-right-spec = tie.close (tie.spec returns)
+pub pictures_are_right_spec : {M : Type 1} → statement M
+pictures_are_right_spec = tie.close (tie.spec returns)

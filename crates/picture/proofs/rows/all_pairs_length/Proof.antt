@@ -44,8 +44,8 @@ loop-again c =
 returns : tie.Need-returns invariant-loop decreases-loop
 returns c = rows-counted _ _ c.before.before.before.requires c.before.loop.invariant c.loop-test.false
 
-pub all-pairs-length-spec : {M : Type 1} → statement M
-all-pairs-length-spec =
+pub all_pairs_length_spec : {M : Type 1} → statement M
+all_pairs_length_spec =
     tie.close
     (tie.spec
     invariant-loop

@@ -44,8 +44,8 @@ loop-again c =
 returns : tie.Need-returns invariant-loop decreases-loop
 returns c = rows-counted _ _ c.before.before.before.requires c.before.loop.invariant c.loop-test.false
 
-pub nodes-length-spec : {M : Type 1} → statement M
-nodes-length-spec =
+pub nodes_length_spec : {M : Type 1} → statement M
+nodes_length_spec =
     tie.close
     (tie.spec
     invariant-loop

@@ -46,8 +46,8 @@ same_length c = c.before.loop.invariant.pieces.size
 returns : tie.Need-returns invariant-loop decreases-loop
 returns c = rows_end _ _ _ _ c.before.loop.invariant c.loop-test.false
 
-pub put-all-edges-spec : {M : Type 1} → statement M
-put-all-edges-spec =
+pub put_all_edges_spec : {M : Type 1} → statement M
+put_all_edges_spec =
     tie.close
     (tie.spec
     invariant-loop

@@ -50,8 +50,8 @@ same_length c = c.before.loop.invariant.pieces.size
 returns : tie.Need-returns invariant-loop decreases-loop
 returns c = rows_end _ _ _ _ c.before.loop.invariant c.loop-test.false
 
-pub put-all-pairs-spec : {M : Type 1} → statement M
-put-all-pairs-spec =
+pub put_all_pairs_spec : {M : Type 1} → statement M
+put_all_pairs_spec =
     tie.close
     (tie.spec
     invariant-loop

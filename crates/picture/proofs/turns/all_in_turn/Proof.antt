@@ -77,8 +77,8 @@ loop-again c = search sets-next
 returns-2 : tie.Need-returns-2 invariant-loop decreases-loop
 returns-2 c = search turns-all
 
-pub all-in-turn-spec : {M : Type 1} → statement M
-all-in-turn-spec =
+pub all_in_turn_spec : {M : Type 1} → statement M
+all_in_turn_spec =
     tie.close
     (tie.spec
     invariant-loop

@@ -27,6 +27,6 @@ returns-2 c =
     let first = c.before.before.Group-of.ensures ∙ number in
     rw (first, ne_eqb _ 0 at-lowest.before.if1.false) refl
 
-pub in-turn-spec : {M : Type 1} → statement M
-in-turn-spec =
+pub in_turn_spec : {M : Type 1} → statement M
+in_turn_spec =
     tie.close (tie.spec returns lowest-requires cast-t7 group-of-requires returns-2)

@@ -54,8 +54,8 @@ loop-again c = (
 returns : tie.Need-returns invariant-loop decreases-loop
 returns c = gathers-end _ c.before.loop.invariant.0 c.loop-test.false
 
-pub machines-of-spec : {M : Type 1} → statement M
-machines-of-spec =
+pub machines_of_spec : {M : Type 1} → statement M
+machines_of_spec =
     tie.close
     (tie.spec
     invariant-loop

@@ -64,8 +64,8 @@ loop-again c = search costed-next
 returns : tie.Need-returns invariant-loop decreases-loop
 returns c = search costed-end
 
-pub bound-spec : {M : Type 1} → statement M
-bound-spec =
+pub bound_spec : {M : Type 1} → statement M
+bound_spec =
     tie.close
     (tie.spec
     invariant-loop

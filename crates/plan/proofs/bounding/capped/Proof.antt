@@ -15,5 +15,5 @@ returns-2 : tie.Need-returns-2
 unfolding capped_cost
 returns-2 c = omega arith
 
-pub capped-spec : {M : Type 1} → statement M
-capped-spec = tie.close (tie.spec add-result returns returns-2)
+pub capped_spec : {M : Type 1} → statement M
+capped_spec = tie.close (tie.spec add-result returns returns-2)

@@ -41,8 +41,8 @@ loop-again c = search (prepares-next, taken-rest)
 returns : tie.Need-returns invariant-loop decreases-loop
 returns c = search prepares-end
 
-pub prepared-spec : {M : Type 1} → statement M
-prepared-spec =
+pub prepared_spec : {M : Type 1} → statement M
+prepared_spec =
     tie.close
     (tie.spec
     invariant-loop

@@ -40,8 +40,8 @@ number-requires c κs = search rules
 returns : tie.Need-returns
 returns c m k same = groups-taken m same _ (c.number.ensures (need_graph m) (search groups-kept))
 
-pub by-needs-spec : {M : Type 1} → statement M
-by-needs-spec =
+pub by_needs_spec : {M : Type 1} → statement M
+by_needs_spec =
     tie.close
     (tie.spec
     slice-aggregate-reached

@@ -16,6 +16,6 @@ by-needs-requires c κs = (search rules, search machines-fit)
 returns : tie.Need-returns
 returns c m i = c.by-needs.ensures m (c.before.before.needed.ensures m i) (indexes-machines i)
 
-pub groups-spec : {M : Type 1} → statement M
-groups-spec =
+pub groups_spec : {M : Type 1} → statement M
+groups_spec =
     tie.close (tie.spec needed-requires slice-aggregate-by-needs by-needs-requires returns)

@@ -54,8 +54,8 @@ returns : tie.Need-returns invariant-loop decreases-loop
 returns c =
     rw (← c.before.before.before.wide.ensures.0) (meets-end _ _ c.before.loop.invariant c.loop-test.false)
 
-pub mutual-spec : {M : Type 1} → statement M
-mutual-spec =
+pub mutual_spec : {M : Type 1} → statement M
+mutual_spec =
     tie.close
     (tie.spec
     invariant-loop

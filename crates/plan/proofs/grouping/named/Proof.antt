@@ -41,8 +41,8 @@ returns : tie.Need-returns invariant-loop decreases-loop
 unfolding names
 returns c = record { bits = (needs-end c.before.loop.invariant c.loop-test.false).bits }
 
-pub named-spec : {M : Type 1} → statement M
-named-spec =
+pub named_spec : {M : Type 1} → statement M
+named_spec =
     tie.close
     (tie.spec
     invariant-loop

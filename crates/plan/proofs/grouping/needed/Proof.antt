@@ -70,8 +70,8 @@ returns c m i =
     let valid = indexes-valid i in
     reads_end valid (c.before.loop.invariant m l valid) (omega (arith, l.one_each, c.loop-test.false))
 
-pub needed-spec : {M : Type 1} → statement M
-needed-spec =
+pub needed_spec : {M : Type 1} → statement M
+needed_spec =
     tie.close
     (tie.spec
     invariant-loop

@@ -58,8 +58,8 @@ loop-again c = search (unready-next, taken-rest)
 returns-2 : tie.Need-returns-2 invariant-loop decreases-loop
 returns-2 c = search unready-end
 
-pub next-group-spec : {M : Type 1} → statement M
-next-group-spec =
+pub next_group_spec : {M : Type 1} → statement M
+next_group_spec =
     tie.close
     (tie.spec
     invariant-loop

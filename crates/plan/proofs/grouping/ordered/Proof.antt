@@ -42,8 +42,8 @@ returns c =
           needed-by i _ _ holds (by-needs.ensures m holds (indexes-machines i)) put.ensures,
     )
 
-pub ordered-spec : {M : Type 1} → statement M
-ordered-spec =
+pub ordered_spec : {M : Type 1} → statement M
+ordered_spec =
     tie.close
     (tie.spec
     needed-requires

@@ -57,8 +57,8 @@ same_length c = c.before.loop.invariant.0 ∙ sym c.before.before.before.before.
 returns : tie.Need-returns invariant-loop decreases-loop
 returns c = record { each = filled-end _ c.before.loop.invariant.1 c.loop-test.false }
 
-pub outside-spec : {M : Type 1} → statement M
-outside-spec =
+pub outside_spec : {M : Type 1} → statement M
+outside_spec =
     tie.close
     (tie.spec
     invariant-loop

@@ -78,8 +78,8 @@ same_length c = c.before.loop.invariant.long ∙ sym c.before.before.before.befo
 returns : tie.Need-returns invariant-loop decreases-loop
 returns c = search put-end
 
-pub put-into-spec : {M : Type 1} → statement M
-put-into-spec =
+pub put_into_spec : {M : Type 1} → statement M
+put_into_spec =
     tie.close
     (tie.spec
     invariant-loop

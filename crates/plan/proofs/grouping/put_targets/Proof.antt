@@ -91,8 +91,8 @@ same_length c = c.before.loop.invariant.long ∙ sym (ap length (start c.before)
 returns : tie.Need-returns invariant-loop decreases-loop
 returns c = search targets-end
 
-pub put-targets-spec : {M : Type 1} → statement M
-put-targets-spec =
+pub put_targets_spec : {M : Type 1} → statement M
+put_targets_spec =
     tie.close
     (tie.spec
     invariant-loop

@@ -43,8 +43,8 @@ same_length c = c.before.loop.invariant.0 ∙ sym c.before.before.before.before.
 returns : tie.Need-returns invariant-loop decreases-loop
 returns c = record { each = filled-end _ c.before.loop.invariant.1 c.loop-test.false }
 
-pub reached-spec : {M : Type 1} → statement M
-reached-spec =
+pub reached_spec : {M : Type 1} → statement M
+reached_spec =
     tie.close
     (tie.spec
     invariant-loop

@@ -38,8 +38,8 @@ loop-again c = search summed-next
 returns : tie.Need-returns invariant-loop decreases-loop
 returns c = search summed-end
 
-pub entries-spec : {M : Type 1} → statement M
-entries-spec =
+pub entries_spec : {M : Type 1} → statement M
+entries_spec =
     tie.close
     (tie.spec
     invariant-loop

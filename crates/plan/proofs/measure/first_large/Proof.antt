@@ -35,8 +35,8 @@ loop-again c = (search rules, below_more _ _ c.before.before.before.loop.invaria
 returns-2 : tie.Need-returns-2 invariant-loop decreases-loop
 returns-2 c = large-missing _ _ _ c.loop-test.false c.before.loop.invariant.1
 
-pub first-large-spec : {M : Type 1} → statement M
-first-large-spec =
+pub first_large_spec : {M : Type 1} → statement M
+first_large_spec =
     tie.close
     (tie.spec
     invariant-loop

@@ -78,8 +78,8 @@ returns-3 c =
     let are = c.before.before.before.before.before.before.sizes.ensures m counts in
     search (length-fits m, few-groups)
 
-pub length-of-spec : {M : Type 1} → statement M
-length-of-spec =
+pub length_of_spec : {M : Type 1} → statement M
+length_of_spec =
     tie.close
     (tie.spec
     count-requires

@@ -26,8 +26,8 @@ returns c =
     λ m i.
     own-length i _ (c.before.before.before.before.before.groups.ensures m i) c.length-of.ensures
 
-pub measured-spec : {M : Type 1} → statement M
-measured-spec =
+pub measured_spec : {M : Type 1} → statement M
+measured_spec =
     tie.close
     (tie.spec
     groups-requires

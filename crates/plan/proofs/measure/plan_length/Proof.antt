@@ -30,7 +30,7 @@ returns-2 c =
     let read = c.before.before.before.read.ensures.0 in
     sym (length-unread _ (refused-parse _ _ read c.before.verdict.given.1))
 
-pub plan-length-spec : {M : Type 1} → statement M
-plan-length-spec =
+pub plan_length_spec : {M : Type 1} → statement M
+plan_length_spec =
     tie.close
     (tie.spec read-requires enum-known-verdict enum_told measured-requires returns returns-2)

@@ -40,8 +40,8 @@ returns-3 c =
     shape-judged valid fit o at-needs.needs-come-first.ensures at-if1.before.first-large.ensures
     at-if1.if1.false at-if2.if2.false c.records-fit.ensures
 
-pub in-shape-spec : {M : Type 1} → statement M
-in-shape-spec =
+pub in_shape_spec : {M : Type 1} → statement M
+in_shape_spec =
     tie.close
     (tie.spec
     slice-aggregate-first-large

@@ -5,5 +5,5 @@ use Rattle.plan.proofs.promises.bounds_are_right.Tie as tie
 returns : tie.Need-returns
 returns c = bounds-right
 
-pub bounds-are-right-spec : {M : Type 1} → statement M
-bounds-are-right-spec = tie.close (tie.spec returns)
+pub bounds_are_right_spec : {M : Type 1} → statement M
+bounds_are_right_spec = tie.close (tie.spec returns)

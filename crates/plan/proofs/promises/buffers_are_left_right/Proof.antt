@@ -5,5 +5,5 @@ use Rattle.plan.proofs.promises.buffers_are_left_right.Tie as tie
 returns : tie.Need-returns
 returns c = left-right
 
-pub buffers-are-left-right-spec : {M : Type 1} → statement M
-buffers-are-left-right-spec = tie.close (tie.spec returns)
+pub buffers_are_left_right_spec : {M : Type 1} → statement M
+buffers_are_left_right_spec = tie.close (tie.spec returns)

@@ -5,5 +5,5 @@ use Rattle.plan.proofs.promises.groups_are_right.Tie as tie
 returns : tie.Need-returns
 returns c = groups-right
 
-pub groups-are-right-spec : {M : Type 1} → statement M
-groups-are-right-spec = tie.close (tie.spec returns)
+pub groups_are_right_spec : {M : Type 1} → statement M
+groups_are_right_spec = tie.close (tie.spec returns)

@@ -7,5 +7,5 @@ use Rattle.plan.proofs.promises.modes_are_right.Tie as tie
 returns : tie.Need-returns
 returns c = λ m valid. modes-right m valid (groups_of m) (length-groups_of m)
 
-pub modes-are-right-spec : {M : Type 1} → statement M
-modes-are-right-spec = tie.close (tie.spec returns)
+pub modes_are_right_spec : {M : Type 1} → statement M
+modes_are_right_spec = tie.close (tie.spec returns)

@@ -5,5 +5,5 @@ use Rattle.plan.proofs.promises.own_usable_is_right.Tie as tie
 returns : tie.Need-returns
 returns c = planned-usable
 
-pub own-usable-is-right-spec : {M : Type 1} → statement M
-own-usable-is-right-spec = tie.close (tie.spec returns)
+pub own_usable_is_right_spec : {M : Type 1} → statement M
+own_usable_is_right_spec = tie.close (tie.spec returns)

@@ -5,5 +5,5 @@ use Rattle.plan.proofs.promises.plan_is_lawful.Tie as tie
 returns : tie.Need-returns
 returns c = lawful
 
-pub plan-is-lawful-spec : {M : Type 1} → statement M
-plan-is-lawful-spec = tie.close (tie.spec returns)
+pub plan_is_lawful_spec : {M : Type 1} → statement M
+plan_is_lawful_spec = tie.close (tie.spec returns)

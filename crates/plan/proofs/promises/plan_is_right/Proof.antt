@@ -5,5 +5,5 @@ use Rattle.plan.proofs.promises.plan_is_right.Tie as tie
 returns : tie.Need-returns
 returns c = planned
 
-pub plan-is-right-spec : {M : Type 1} → statement M
-plan-is-right-spec = tie.close (tie.spec returns)
+pub plan_is_right_spec : {M : Type 1} → statement M
+plan_is_right_spec = tie.close (tie.spec returns)

@@ -5,5 +5,5 @@ use Rattle.plan.proofs.promises.replies_are_right.Tie as tie
 returns : tie.Need-returns
 returns c = replied
 
-pub replies-are-right-spec : {M : Type 1} → statement M
-replies-are-right-spec = tie.close (tie.spec returns)
+pub replies_are_right_spec : {M : Type 1} → statement M
+replies_are_right_spec = tie.close (tie.spec returns)

@@ -5,5 +5,5 @@ use Rattle.plan.proofs.promises.scratches_are_right.Tie as tie
 returns : tie.Need-returns
 returns c = scratch-right
 
-pub scratches-are-right-spec : {M : Type 1} → statement M
-scratches-are-right-spec = tie.close (tie.spec returns)
+pub scratches_are_right_spec : {M : Type 1} → statement M
+scratches_are_right_spec = tie.close (tie.spec returns)

@@ -5,5 +5,5 @@ use Rattle.plan.proofs.promises.shown_is_right.Tie as tie
 returns : tie.Need-returns
 returns c = shown-right
 
-pub shown-is-right-spec : {M : Type 1} → statement M
-shown-is-right-spec = tie.close (tie.spec returns)
+pub shown_is_right_spec : {M : Type 1} → statement M
+shown_is_right_spec = tie.close (tie.spec returns)

@@ -25,8 +25,8 @@ returns : tie.Need-returns
 unfolding bound_at
 returns c = rw (c.before.word_at.ensures.0, c.word-at2.ensures.0)
 
-pub bound-spec : {M : Type 1} → statement M
-bound-spec =
+pub bound_spec : {M : Type 1} → statement M
+bound_spec =
     tie.close
     (tie.spec
     add-word-at

@@ -39,8 +39,8 @@ returns-3 c =
       sym c.before.has-record2.ensures ∙ not-false _ c.if2.false,
     )
 
-pub ends-spec : {M : Type 1} → statement M
-ends-spec =
+pub ends_spec : {M : Type 1} → statement M
+ends_spec =
     tie.close
     (tie.spec
     has-record-requires

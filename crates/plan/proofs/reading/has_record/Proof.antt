@@ -21,6 +21,6 @@ returns-2 c = search record-other
 returns-3 : tie.Need-returns-3
 returns-3 c = search record-long
 
-pub has-record-spec : {M : Type 1} → statement M
-has-record-spec =
+pub has_record_spec : {M : Type 1} → statement M
+has_record_spec =
     tie.close (tie.spec record-at-requires enum-known-found enum_told returns returns-2 returns-3)

@@ -50,8 +50,8 @@ returns-2 : tie.Need-returns-2 invariant-loop decreases-loop
 unfolding lower_named
 returns-2 c = search passed-all
 
-pub needs-come-first-spec : {M : Type 1} → statement M
-needs-come-first-spec =
+pub needs_come_first_spec : {M : Type 1} → statement M
+needs_come_first_spec =
     tie.close
     (tie.spec
     invariant-loop

@@ -18,6 +18,6 @@ returns c = search numbers-judged
 returns-2 : tie.Need-returns-2
 returns-2 c = search numbers-missing
 
-pub numbers-fit-spec : {M : Type 1} → statement M
-numbers-fit-spec =
+pub numbers_fit_spec : {M : Type 1} → statement M
+numbers_fit_spec =
     tie.close (tie.spec has-record-requires body-requires without-gaps-requires returns returns-2)

@@ -30,8 +30,8 @@ returns c =
 returns-2 : tie.Need-returns-2
 returns-2 c = rw (sym c.before.tables-fit.ensures ∙ c.if1.false)
 
-pub records-fit-spec : {M : Type 1} → statement M
-records-fit-spec =
+pub records_fit_spec : {M : Type 1} → statement M
+records_fit_spec =
     tie.close
     (tie.spec
     tables-fit-requires

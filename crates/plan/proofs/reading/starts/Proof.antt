@@ -59,8 +59,8 @@ array-write-r-2 c = search rules
 returns : tie.Need-returns invariant-loop decreases-loop
 returns c = search starts-end
 
-pub starts-spec : {M : Type 1} → statement M
-starts-spec =
+pub starts_spec : {M : Type 1} → statement M
+starts_spec =
     tie.close
     (tie.spec
     invariant-loop

@@ -23,6 +23,6 @@ returns c =
     let small = byte-product c.before.wide.ensures.1 c.wide2.ensures.1 in
     (rw (c.before.wide.ensures.0, c.wide2.ensures.0), omega arith)
 
-pub table-length-spec : {M : Type 1} → statement M
-table-length-spec =
+pub table_length_spec : {M : Type 1} → statement M
+table_length_spec =
     tie.close (tie.spec wide-requires wide-requires-2 mul-result mul-result-2 returns)

@@ -63,8 +63,8 @@ returns-2 : tie.Need-returns-2 invariant-loop decreases-loop
 unfolding tables_fit
 returns-2 c = search passed-all
 
-pub tables-fit-spec : {M : Type 1} → statement M
-tables-fit-spec =
+pub tables_fit_spec : {M : Type 1} → statement M
+tables_fit_spec =
     tie.close
     (tie.spec
     invariant-loop

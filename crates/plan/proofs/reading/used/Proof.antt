@@ -41,8 +41,8 @@ loop-again c =
 returns : tie.Need-returns invariant-loop decreases-loop
 returns c = used-end _ c.before.before.loop.invariant (omega arith)
 
-pub used-spec : {M : Type 1} → statement M
-used-spec =
+pub used_spec : {M : Type 1} → statement M
+used_spec =
     tie.close
     (tie.spec
     invariant-loop

@@ -18,6 +18,6 @@ first-requires c κs = search rules
 returns-2 : tie.Need-returns-2
 returns-2 c = search gapless-set
 
-pub without-gaps-spec : {M : Type 1} → statement M
-without-gaps-spec =
+pub without_gaps_spec : {M : Type 1} → statement M
+without_gaps_spec =
     tie.close (tie.spec count-requires returns used-requires first-requires returns-2)

@@ -24,8 +24,8 @@ same_length c = search rules
 returns : tie.Need-returns
 returns c = search bound-written
 
-pub put-bound-spec : {M : Type 1} → statement M
-put-bound-spec =
+pub put_bound_spec : {M : Type 1} → statement M
+put_bound_spec =
     tie.close
     (tie.spec
     cast-put-two

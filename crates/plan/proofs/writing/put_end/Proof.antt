@@ -24,8 +24,8 @@ same_length c = search rules
 returns : tie.Need-returns
 returns c = search end-written
 
-pub put-end-spec : {M : Type 1} → statement M
-put-end-spec =
+pub put_end_spec : {M : Type 1} → statement M
+put_end_spec =
     tie.close
     (tie.spec
     put-header-requires

@@ -15,5 +15,5 @@ same_length c = search rules
 returns : tie.Need-returns
 returns c = search start-written
 
-pub put-start-spec : {M : Type 1} → statement M
-put-start-spec = tie.close (tie.spec put-header-requires put-bytes-requires same_length returns)
+pub put_start_spec : {M : Type 1} → statement M
+put_start_spec = tie.close (tie.spec put-header-requires put-bytes-requires same_length returns)

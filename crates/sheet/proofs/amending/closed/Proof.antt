@@ -60,8 +60,8 @@ returns c =
     let none = c.before.before.requires.2 in
     (closing-count h c.loop-test.false none, closing-array h c.loop-test.false none)
 
-pub closed-spec : {M : Type 1} → statement M
-closed-spec =
+pub closed_spec : {M : Type 1} → statement M
+closed_spec =
     tie.close
     (tie.spec
     invariant-loop

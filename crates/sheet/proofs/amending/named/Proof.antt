@@ -21,8 +21,8 @@ shared-slice-read-t6 c = omega (arith, c.before.before.before.before.requires.1 
 returns-2 : tie.Need-returns-2
 returns-2 c = search named-withdrawn
 
-pub named-spec : {M : Type 1} → statement M
-named-spec =
+pub named_spec : {M : Type 1} → statement M
+named_spec =
     tie.close
     (tie.spec
     shared-slice-read-machine

@@ -180,8 +180,8 @@ loop-less c = search tail-less
 loop-again : tie.Need-loop-preserved invariant-loop decreases-loop
 loop-again c = search tail-again
 
-pub read-tail-spec : {M : Type 1} → statement M
-read-tail-spec =
+pub read_tail_spec : {M : Type 1} → statement M
+read_tail_spec =
     tie.close
     (tie.spec
     invariant-loop

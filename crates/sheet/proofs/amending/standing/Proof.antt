@@ -53,8 +53,8 @@ returns-5 c vs v h n =
     let at-find = c.before.before.before.before.before.before in
     search (owner-stands, (start at-find).well-formed.1.1.1.1.0, at-find.before.pair_of.ensures, at-find.find.ensures)
 
-pub standing-spec : {M : Type 1} → statement M
-standing-spec =
+pub standing_spec : {M : Type 1} → statement M
+standing_spec =
     tie.close
     (tie.spec
     wide-requires

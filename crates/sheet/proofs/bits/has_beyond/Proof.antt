@@ -16,5 +16,5 @@ returns-2 : tie.Need-returns-2
 unfolding beyond
 returns-2 c = search rules
 
-pub has-beyond-spec : {M : Type 1} → statement M
-has-beyond-spec = tie.close (tie.spec returns shr-result returns-2)
+pub has_beyond_spec : {M : Type 1} → statement M
+has_beyond_spec = tie.close (tie.spec returns shr-result returns-2)

@@ -16,5 +16,5 @@ returns-2 : tie.Need-returns-2
 unfolding bit
 returns-2 c = search rules
 
-pub has-mode-spec : {M : Type 1} → statement M
-has-mode-spec = tie.close (tie.spec returns shr-result returns-2)
+pub has_mode_spec : {M : Type 1} → statement M
+has_mode_spec = tie.close (tie.spec returns shr-result returns-2)

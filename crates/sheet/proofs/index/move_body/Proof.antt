@@ -18,5 +18,5 @@ body-requires c κs = search rules
 returns : tie.Need-returns
 returns c = search rules
 
-pub move-body-spec : {M : Type 1} → statement M
-move-body-spec = tie.close (tie.spec mul-body shared-slice-read-body cast-body body-requires returns)
+pub move_body_spec : {M : Type 1} → statement M
+move_body_spec = tie.close (tie.spec mul-body shared-slice-read-body cast-body body-requires returns)

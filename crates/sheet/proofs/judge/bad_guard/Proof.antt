@@ -45,8 +45,8 @@ returns-3 c = search wrong-guard-empty
 returns-4 : tie.Need-returns-4
 returns-4 c = search wrong-guard-rest
 
-pub bad-guard-spec : {M : Type 1} → statement M
-bad-guard-spec =
+pub bad_guard_spec : {M : Type 1} → statement M
+bad_guard_spec =
     tie.close
     (tie.spec
     mul-machine

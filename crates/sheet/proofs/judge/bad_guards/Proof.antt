@@ -43,8 +43,8 @@ loop-again c = (
 returns-2 : tie.Need-returns-2 invariant-loop decreases-loop
 returns-2 c = guards-all _ _ c.before.loop.invariant.1 c.before.loop.invariant.0 c.loop-test.false refl
 
-pub bad-guards-spec : {M : Type 1} → statement M
-bad-guards-spec =
+pub bad_guards_spec : {M : Type 1} → statement M
+bad_guards_spec =
     tie.close
     (tie.spec
     invariant-loop

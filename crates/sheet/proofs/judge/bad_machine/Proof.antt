@@ -23,5 +23,5 @@ returns-4 : tie.Need-returns-4
 unfolding bad_machine
 returns-4 c = search (tests, ← c.has-beyond.ensures)
 
-pub bad-machine-spec : {M : Type 1} → statement M
-bad-machine-spec = tie.close (tie.spec returns returns-2 returns-3 has-beyond-requires returns-4)
+pub bad_machine_spec : {M : Type 1} → statement M
+bad_machine_spec = tie.close (tie.spec returns returns-2 returns-3 has-beyond-requires returns-4)

@@ -33,8 +33,8 @@ returns-2 c = search dead-rest
 returns-3 : tie.Need-returns-3
 returns-3 c = search dead-failed
 
-pub bad-move-spec : {M : Type 1} → statement M
-bad-move-spec =
+pub bad_move_spec : {M : Type 1} → statement M
+bad_move_spec =
     tie.close
     (tie.spec
     shared-slice-read-from

@@ -22,5 +22,5 @@ returns : tie.Need-returns
 unfolding top_of
 returns c = omega (arith, shift_one c.wide.ensures.0 c.before.requires)
 
-pub first-modes-spec : {M : Type 1} → statement M
-first-modes-spec = tie.close (tie.spec wide-requires shl-result sub-result cast-result returns)
+pub first_modes_spec : {M : Type 1} → statement M
+first_modes_spec = tie.close (tie.spec wide-requires shl-result sub-result cast-result returns)

@@ -40,8 +40,8 @@ returns-6 c m at h =
     let none = c.match.rest in
     rw (own-unknown m at _ _ none.0.0.0.0.1 none.0.0.0.1 none.0.0.1 none.0.1 none.1)
 
-pub judge-spec : {M : Type 1} → statement M
-judge-spec =
+pub judge_spec : {M : Type 1} → statement M
+judge_spec =
     tie.close
     (tie.spec
     judge-machine-requires

@@ -24,8 +24,8 @@ returns-3 c m at h = search body-silent
 returns-4 : tie.Need-returns-4
 returns-4 c m at h = search body-fine
 
-pub judge-body-spec : {M : Type 1} → statement M
-judge-body-spec =
+pub judge_body_spec : {M : Type 1} → statement M
+judge_body_spec =
     tie.close
     (tie.spec
     bad-move-requires

@@ -16,5 +16,5 @@ returns-3 : tie.Need-returns-3
 unfolding unless end_faults
 returns-3 c = λ m at e. search (tests, e)
 
-pub judge-end-spec : {M : Type 1} → statement M
-judge-end-spec = tie.close (tie.spec returns returns-2 returns-3)
+pub judge_end_spec : {M : Type 1} → statement M
+judge_end_spec = tie.close (tie.spec returns returns-2 returns-3)

@@ -23,8 +23,8 @@ judge-body-requires c κs = search move-long
 returns-4 : tie.Need-returns-4
 returns-4 c m at h = search (move-placed, c.judge-body.ensures)
 
-pub judge-late-spec : {M : Type 1} → statement M
-judge-late-spec =
+pub judge_late_spec : {M : Type 1} → statement M
+judge_late_spec =
     tie.close
     (tie.spec
     wrong-move-length-requires

@@ -27,8 +27,8 @@ returns-4 c m at n = search machine-bad
 returns-5 : tie.Need-returns-5
 returns-5 c m at n = search machine-fine
 
-pub judge-machine-spec : {M : Type 1} → statement M
-judge-machine-spec =
+pub judge_machine_spec : {M : Type 1} → statement M
+judge_machine_spec =
     tie.close
     (tie.spec
     returns

@@ -39,8 +39,8 @@ returns-6 c m at h = search (move-placed, body-silent)
 returns-7 : tie.Need-returns-7
 returns-7 c m at h = search (move-placed, body-fine)
 
-pub judge-move-spec : {M : Type 1} → statement M
-judge-move-spec =
+pub judge_move_spec : {M : Type 1} → statement M
+judge_move_spec =
     tie.close
     (tie.spec
     wrong-move-length-requires

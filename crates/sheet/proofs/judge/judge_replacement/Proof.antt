@@ -18,6 +18,6 @@ returns-2 : tie.Need-returns-2
 unfolding own_replace_faults
 returns-2 c m at h = search (length-right, c.judge-body.ensures)
 
-pub judge-replacement-spec : {M : Type 1} → statement M
-judge-replacement-spec =
+pub judge_replacement_spec : {M : Type 1} → statement M
+judge_replacement_spec =
     tie.close (tie.spec wrong-move-length-requires returns judge-body-requires returns-2)

@@ -12,5 +12,5 @@ returns-2 : tie.Need-returns-2
 unfolding unless own_withdraw_faults
 returns-2 c at = search tests
 
-pub judge-withdrawal-spec : {M : Type 1} → statement M
-judge-withdrawal-spec = tie.close (tie.spec returns returns-2)
+pub judge_withdrawal_spec : {M : Type 1} → statement M
+judge_withdrawal_spec = tie.close (tie.spec returns returns-2)

@@ -19,6 +19,6 @@ returns c = rw (lt-ltb _ _ c.before.if1.true)
 returns-2 : tie.Need-returns-2
 returns-2 c = search tests
 
-pub not-rising-spec : {M : Type 1} → statement M
-not-rising-spec =
+pub not_rising_spec : {M : Type 1} → statement M
+not_rising_spec =
     tie.close (tie.spec mul-result add-result shared-slice-read-result returns returns-2)

@@ -15,5 +15,5 @@ returns-3 : tie.Need-returns-3
 unfolding wrong_move_length
 returns-3 c = search tests
 
-pub wrong-move-length-spec : {M : Type 1} → statement M
-wrong-move-length-spec = tie.close (tie.spec returns returns-2 returns-3)
+pub wrong_move_length_spec : {M : Type 1} → statement M
+wrong_move_length_spec = tie.close (tie.spec returns returns-2 returns-3)

@@ -5,5 +5,5 @@ use Rattle.sheet.proofs.promises.accepted_is_valid.Tie as tie
 returns : tie.Need-returns
 returns c = accepted-valid
 
-pub accepted-is-valid-spec : {M : Type 1} → statement M
-accepted-is-valid-spec = tie.close (tie.spec returns)
+pub accepted_is_valid_spec : {M : Type 1} → statement M
+accepted_is_valid_spec = tie.close (tie.spec returns)

@@ -5,5 +5,5 @@ use Rattle.sheet.proofs.promises.accepted_is_whole.Tie as tie
 returns : tie.Need-returns
 returns c = accepted-whole
 
-pub accepted-is-whole-spec : {M : Type 1} → statement M
-accepted-is-whole-spec = tie.close (tie.spec returns)
+pub accepted_is_whole_spec : {M : Type 1} → statement M
+accepted_is_whole_spec = tie.close (tie.spec returns)

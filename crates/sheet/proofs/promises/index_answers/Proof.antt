@@ -5,5 +5,5 @@ use Rattle.sheet.proofs.promises.index_answers.Tie as tie
 returns : tie.Need-returns
 returns c = index-answers
 
-pub index-answers-spec : {M : Type 1} → statement M
-index-answers-spec = tie.close (tie.spec returns)
+pub index_answers_spec : {M : Type 1} → statement M
+index_answers_spec = tie.close (tie.spec returns)

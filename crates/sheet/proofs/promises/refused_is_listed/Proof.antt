@@ -5,5 +5,5 @@ use Rattle.sheet.proofs.promises.refused_is_listed.Tie as tie
 returns : tie.Need-returns
 returns c = refused-listed
 
-pub refused-is-listed-spec : {M : Type 1} → statement M
-refused-is-listed-spec = tie.close (tie.spec returns)
+pub refused_is_listed_spec : {M : Type 1} → statement M
+refused_is_listed_spec = tie.close (tie.spec returns)

@@ -240,9 +240,9 @@ record-at-meets {𝓤 = 𝓤} 𝓛 mem run 𝓣 known-open known-moved known_nex
     (WpFn 𝓤 𝓛.H 𝓣.C 𝓣.Λ code.function) (WpFn-mono 𝓤 𝓛.H 𝓛.laws 𝓣 code.function)
     (record-at-walks 𝓛 mem run 𝓣.C 𝓣.Λ (fm_of 𝓤 𝓛.H 𝓛.laws 𝓣) known-open known-moved known_next)
 
-pub record-at-spec : {M : Type 1} → stated.statement M
+pub record_at_spec : {M : Type 1} → stated.statement M
 unfolding code.routine tables_of
-record-at-spec 𝓤 𝓛 𝓜 𝓡 =
+record_at_spec 𝓤 𝓛 𝓜 𝓡 =
     entered 𝓤 𝓛.H (triple_of 𝓛 record-at.signature (record-at.spec 𝓛 𝓜.mem 𝓡.run))
     (tables 𝓤 𝓛.H 𝓜 𝓡 code.env).C (tables 𝓤 𝓛.H 𝓜 𝓡 code.env).Λ #record-at code.function (code.unfolded 𝓤 𝓛.H 𝓜 𝓡)
     (record-at-meets 𝓛 𝓜.mem 𝓡.run (tables_of 𝓤 𝓛.H 𝓜 (tables 𝓤 𝓛.H 𝓜 𝓡 code.env))

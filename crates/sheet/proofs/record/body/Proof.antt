@@ -34,8 +34,8 @@ part-result-start c = search rules
 returns-2 : tie.Need-returns-2
 returns-2 c = search body-whole
 
-pub body-spec : {M : Type 1} → statement M
-body-spec =
+pub body_spec : {M : Type 1} → statement M
+body_spec =
     tie.close
     (tie.spec
     record-at-requires

@@ -13,5 +13,5 @@ shared-slice-read-result c = search rules
 returns-2 : tie.Need-returns-2
 returns-2 c = search rules
 
-pub byte-at-spec : {M : Type 1} → statement M
-byte-at-spec = tie.close (tie.spec returns shared-slice-read-result returns-2)
+pub byte_at_spec : {M : Type 1} → statement M
+byte_at_spec = tie.close (tie.spec returns shared-slice-read-result returns-2)

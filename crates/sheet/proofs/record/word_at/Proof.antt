@@ -34,8 +34,8 @@ returns-2 : tie.Need-returns-2
 unfolding word
 returns-2 c = omega arith
 
-pub word-at-spec : {M : Type 1} → statement M
-word-at-spec =
+pub word_at_spec : {M : Type 1} → statement M
+word_at_spec =
     tie.close
     (tie.spec
     returns

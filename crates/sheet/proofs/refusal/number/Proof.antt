@@ -130,8 +130,8 @@ returns-20 c = sym (ap number_of c.enum-told20.given.1)
 returns-21 : tie.Need-returns-21
 returns-21 c = sym (ap number_of c.enum-told21.given.1)
 
-pub number-spec : {M : Type 1} → statement M
-number-spec =
+pub number_spec : {M : Type 1} → statement M
+number_spec =
     tie.close
     (tie.spec
     enum_told

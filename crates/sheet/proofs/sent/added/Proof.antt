@@ -65,8 +65,8 @@ returns-2 c keys h last given =
     added_new _ _ (body-key _ _ (at_key at-find).before.pair_of.ensures (at_key at-find).shared-slice-known4.given) h
     (at-find.find.ensures _ _ h) c.if1.false given last (omega arith)
 
-pub added-spec : {M : Type 1} → statement M
-added-spec =
+pub added_spec : {M : Type 1} → statement M
+added_spec =
     tie.close
     (tie.spec
     shared-slice-read-pair-of

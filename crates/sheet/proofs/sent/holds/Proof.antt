@@ -23,5 +23,5 @@ returns-2 c =
     other-command _ _ _ _ _ (omega (arith, at-known.shared-slice-known.given at-known.before.args.at))
     (omega arith) c.if1.false
 
-pub holds-spec : {M : Type 1} → statement M
-holds-spec = tie.close (tie.spec shared-slice-read-if1 shared-slice-read-result returns returns-2)
+pub holds_spec : {M : Type 1} → statement M
+holds_spec = tie.close (tie.spec shared-slice-read-if1 shared-slice-read-result returns returns-2)

@@ -23,6 +23,6 @@ returns : tie.Need-returns
 unfolding key_of
 returns c v m f k = omega (arith, c.before.wide.ensures.0, c.wide2.ensures.0)
 
-pub pair-of-spec : {M : Type 1} → statement M
-pair-of-spec =
+pub pair_of_spec : {M : Type 1} → statement M
+pair_of_spec =
     tie.close (tie.spec wide-requires mul-result wide-requires-2 add-result cast-result returns)

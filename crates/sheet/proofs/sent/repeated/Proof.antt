@@ -28,8 +28,8 @@ returns c keys owners h =
     seek-taken (body-key _ _ at_key.before.pair_of.ensures at_key.shared-slice-known6.given)
     (at-find.find.ensures _ _ h)
 
-pub repeated-spec : {M : Type 1} → statement M
-repeated-spec =
+pub repeated_spec : {M : Type 1} → statement M
+repeated_spec =
     tie.close
     (tie.spec
     shared-slice-read-pair-of

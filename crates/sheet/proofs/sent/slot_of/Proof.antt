@@ -23,5 +23,5 @@ returns : tie.Need-returns
 unfolding slot_of
 returns c = rw (c.before.wide.ensures.0, c.wide2.ensures.0) (omega arith, omega arith)
 
-pub slot-of-spec : {M : Type 1} → statement M
-slot-of-spec = tie.close (tie.spec wide-requires mul-result wide-requires-2 add-result mul-result-2 returns)
+pub slot_of_spec : {M : Type 1} → statement M
+slot_of_spec = tie.close (tie.spec wide-requires mul-result wide-requires-2 add-result mul-result-2 returns)

@@ -21,7 +21,7 @@ same_length c = search rules
 returns : tie.Need-returns
 returns c = search header-written
 
-pub put-header-spec : {M : Type 1} → statement M
-put-header-spec =
+pub put_header_spec : {M : Type 1} → statement M
+put_header_spec =
     tie.close
     (tie.spec put-two-requires add-put-two wide-requires put-two-requires-2 same_length returns)

@@ -26,8 +26,8 @@ same_length c = search rules
 returns : tie.Need-returns
 returns c = two-written _ _ _ c.requires
 
-pub put-two-spec : {M : Type 1} → statement M
-put-two-spec =
+pub put_two_spec : {M : Type 1} → statement M
+put_two_spec =
     tie.close
     (tie.spec
     cast-buffer

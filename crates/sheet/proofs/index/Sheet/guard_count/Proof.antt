@@ -23,5 +23,5 @@ returns c =
     (c.less-four.ensures ∙ ap (λ (n : ℕ). n - 4)
     (c.before.word_at.ensures.0 ∙ ap (word at_place.before.before.args.s.now) at_place.place.ensures.0))
 
-pub guard-count-spec : {M : Type 1} → statement M
-guard-count-spec = tie.close (tie.spec place-requires word-at-requires less-four-requires returns)
+pub guard_count_spec : {M : Type 1} → statement M
+guard_count_spec = tie.close (tie.spec place-requires word-at-requires less-four-requires returns)

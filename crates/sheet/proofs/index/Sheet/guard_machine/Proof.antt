@@ -24,6 +24,6 @@ returns c =
     c.before.before.before.args.v.0 (4 + 2 * k))
     c.before.wide.ensures.0
 
-pub guard-machine-spec : {M : Type 1} → statement M
-guard-machine-spec =
+pub guard_machine_spec : {M : Type 1} → statement M
+guard_machine_spec =
     tie.close (tie.spec wide-requires mul-move-byte add-move-byte move-byte-requires returns)

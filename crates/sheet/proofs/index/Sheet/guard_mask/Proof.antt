@@ -24,6 +24,6 @@ returns c =
     c.before.before.before.args.v.0 (5 + 2 * k))
     c.before.wide.ensures.0
 
-pub guard-mask-spec : {M : Type 1} → statement M
-guard-mask-spec =
+pub guard_mask_spec : {M : Type 1} → statement M
+guard_mask_spec =
     tie.close (tie.spec wide-requires mul-move-byte add-move-byte move-byte-requires returns)

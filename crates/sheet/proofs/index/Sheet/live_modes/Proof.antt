@@ -18,5 +18,5 @@ element-copy-out-result c = search rules
 returns-2 : tie.Need-returns-2
 returns-2 c = ap (λ i. get_or c.before.before.before.args.t1.live i 0) c.before.before.wide.ensures.0
 
-pub live-modes-spec : {M : Type 1} → statement M
-live-modes-spec = tie.close (tie.spec wide-requires returns element-copy-out-result returns-2)
+pub live_modes_spec : {M : Type 1} → statement M
+live_modes_spec = tie.close (tie.spec wide-requires returns element-copy-out-result returns-2)

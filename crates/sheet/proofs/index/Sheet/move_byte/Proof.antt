@@ -22,5 +22,5 @@ returns c =
     let start = c.before.before.before in
     c.byte_at.ensures ∙ ap (λ b. byte start.args.s.now (b + 4 + start.args.n)) c.before.place.ensures.0
 
-pub move-byte-spec : {M : Type 1} → statement M
-move-byte-spec = tie.close (tie.spec place-requires add-byte-at add-byte-at-2 byte-at-requires returns)
+pub move_byte_spec : {M : Type 1} → statement M
+move_byte_spec = tie.close (tie.spec place-requires add-byte-at add-byte-at-2 byte-at-requires returns)

@@ -33,7 +33,7 @@ returns-2 c = (
       c.before.before.wide.result 0) = search rules in f.fits),
 )
 
-pub place-spec : {M : Type 1} → statement M
-place-spec =
+pub place_spec : {M : Type 1} → statement M
+place_spec =
     tie.close
     (tie.spec wide-requires returns mul-result element-copy-out-result cast-result returns-2)
