@@ -1,0 +1,7 @@
+use native.Mathlib.Omega.{arith}
+use Rattle.sheet.specs.Kept.Sent.{slot_of}
+use Rattle.sheet.proofs.sent.slot_of.Goals as goal
+
+pub returns : goal.returns
+unfolding slot_of
+returns c = rw (c.wide.ensures.0, c.wide-2.ensures.0) (omega arith, omega arith)
