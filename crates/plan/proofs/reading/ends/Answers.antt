@@ -1,0 +1,22 @@
+use mathlib.Core.Path.{sym, ◌∙◌}
+use borrow.Author.Tests.{not-true, not-false}
+use Rattle.plan.specs.Kept.Outline.{ends_at}
+use Rattle.plan.proofs.reading.ends.Goals as goal
+
+pub returns-then-not-has_record : goal.returns-then-not-has_record
+unfolding ends_at
+returns-then-not-has_record c = rw (sym c.has_record.ensures ∙ not-true _ c.if-not-has_record.true-raw)
+
+pub returns-then-not-has_record-2 : goal.returns-then-not-has_record-2
+unfolding ends_at
+returns-then-not-has_record-2 c = rw (
+      sym c.has_record.ensures ∙ not-false _ c.if-not-has_record.false-raw,
+      sym c.has_record-2.ensures ∙ not-true _ c.if-not-has_record-2.true-raw,
+    )
+
+pub returns : goal.returns
+unfolding ends_at
+returns c = rw (
+      sym c.has_record.ensures ∙ not-false _ c.if-not-has_record.false-raw,
+      sym c.has_record-2.ensures ∙ not-false _ c.if-not-has_record-2.false-raw,
+    )
