@@ -60,7 +60,7 @@ number-at-most : (a : ℕ) (text : List ℕ) → a ≤ 65536 → number_after a 
 unfolding number_after
 number-at-most a [] h = h
 number-at-most a (b ∷ text) h =
-    by_cases (is_digit b) (λ t. rw t (number-at-most _ text (omega arith))) (λ f. rw f h)
+    by_cases (is_digit b) (λ t. rw t (number-at-most (min (10 * a + (b - 48)) 65536) text (omega arith))) (λ f. rw f h)
 
 -- nothing is larger than 65,536
 number-full : (text : List ℕ) → number_after 65536 text ≡ 65536

@@ -38,7 +38,7 @@ pub number-stays : (a : ℕ) (xs rest : List ℕ) → NoDigitFirst rest → numb
 unfolding number_after
 number-stays a [] rest h = number-ends a rest h
 number-stays a (b ∷ xs) rest h =
-    by_cases (is_digit b) (λ t. rw t (number-stays _ xs rest h)) (λ f. rw f)
+    by_cases (is_digit b) (λ t. rw t (number-stays (min (10 * a + (b - 48)) 65536) xs rest h)) (λ f. rw f)
 
 -- digits are read one after the other
 pub number-goes-on : (a : ℕ) (xs rest : List ℕ) → all is_digit xs ≡ true
@@ -46,7 +46,7 @@ pub number-goes-on : (a : ℕ) (xs rest : List ℕ) → all is_digit xs ≡ true
 unfolding number_after all
 number-goes-on a [] rest h = refl
 number-goes-on a (b ∷ xs) rest h =
-    rw (and_left (is_digit b) _ h) (number-goes-on _ xs rest (and_right (is_digit b) _ h))
+    rw (and_left (is_digit b) _ h) (number-goes-on (min (10 * a + (b - 48)) 65536) xs rest (and_right (is_digit b) _ h))
 
 -- one digit
 number-digit : (a d : ℕ) → d < 10 → 10 * a + d < 65536 → number_after a (digit d ∷ []) ≡ 10 * a + d

@@ -16,12 +16,12 @@ pub returns-then-not-has_record : goal.returns-then-not-has_record
 unfolding tables_fit
 returns-then-not-has_record c = one-fails _ _ c.loop-k-test.true
     (rw (← c.table_length.ensures.0)
-    (sym c.has_record.ensures ∙ not-true _ c.if-not-has_record.true-raw))
+    (sym c.has_record.ensures ∙ c.if-not-has_record.true))
 
 pub loop-k-preserved : goal.loop-k-preserved
 loop-k-preserved c = passed-next _ _ c.loop-k.invariant c.loop-k-test.true
     (rw (← c.table_length.ensures.0)
-    (sym c.has_record.ensures ∙ not-false _ c.if-not-has_record.false-raw))
+    (sym c.has_record.ensures ∙ c.if-not-has_record.false))
 
 pub returns : goal.returns
 unfolding tables_fit

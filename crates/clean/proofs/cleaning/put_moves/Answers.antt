@@ -1,0 +1,19 @@
+use Prim.Native.Nat.{◌-◌}
+use Rattle.sheet.proofs.Pieces.{put-start, put-end}
+use Rattle.clean.proofs.Writing.{move-room, move-more}
+use Rattle.clean.proofs.cleaning.put_moves.Goals as goal
+
+pub loop-v-init : goal.loop-v-init
+loop-v-init c = put-start _ _ _ _
+
+pub put_record-at-requires : goal.put_record-at-requires
+put_record-at-requires c = search move-room
+
+pub loop-v-preserved : goal.loop-v-preserved
+loop-v-preserved c = search move-more
+
+pub shape_of-out : goal.shape_of-out
+shape_of-out c = c.loop-v.invariant.size
+
+pub returns : goal.returns
+returns c = let r = put-end _ _ _ _ c.loop-v.invariant c.loop-v-test.false in record { end = r.0; written = r.1; }
