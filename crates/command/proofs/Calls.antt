@@ -121,7 +121,7 @@ module _ {lent : Lent} {d : Parsed} {Usable : ℕ → Type 0} {longest cost : �
   keeps-all kept [] later run = (record { kept = kept; wished = λ g w. w; same-tags = λ i. refl }, run)
   keeps-all {s} kept (c ∷ before) later run =
       let one = keeps-call s kept c run.0 in
-      let r = keeps-all one.kept before later run.1 in (
+      let r = keeps-all {s = after lent s c} one.kept before later run.1 in (
         record {
           kept = r.0.kept;
           wished = λ g w. r.0.wished g (one.wished g w);

@@ -2,13 +2,13 @@
 -- Assumes nothing.
 use Prim.Native.Nat.{ℕ, ◌≤◌, min}
 use mathlib.Core.Path.{◌≡◌, refl, sym, ap, ◌∙◌}
-use mathlib.Core.Logic.{⊎_elim}
 use mathlib.Core.List.{List, [], ◌∷◌}
 use native.Mathlib.Omega.{arith}
-use types.Run.{OneOf}
-use denote.Enum.Declared.{tag_of}
 use Rattle.common.specs.Reply.{Reply, given, refused, and_then}
 use Rattle.common.proofs.Reply.{and_then-given, given-clear, given_stays}
+use Rattle.sheet.specs.declared.index.Machine.{Machine}
+use Rattle.sheet.specs.declared.index.Move.{Move}
+use Rattle.sheet.specs.declared.refusal.Cause.{Cause}
 use Rattle.sheet.specs.Parse.{parse}
 use Rattle.sheet.proofs.Parsed.{parse-valid}
 use Rattle.plan.specs.Groups.{groups_of}
@@ -28,8 +28,6 @@ use Rattle.command.specs.Apply.{Applied, Effect, apply_reply, effect_reply, stat
 use Rattle.command.specs.Says.{advice_says, change_says}
 use Rattle.command.specs.Walk.{Turn, obeyed, obey_reply, turn_by, turn_reply, after_planning, walk_lines}
 use Rattle.command.specs.Walking.{plan_front, turn_told, turn_leaves, TurnsRight}
-use Rattle.command.specs.contracts.method.Advice.{the_type as advice-type}
-use Rattle.command.specs.contracts.acting.Change.{the_type as change-type}
 use Rattle.command.proofs.Walks.{turn_is, obey-turn}
 
 -- no plan is longer: 32 machines in 32 groups, and 16,384 entries
@@ -109,14 +107,14 @@ turned_by sheet plan state goal r x e a h = rw (turn_is sheet plan state goal (s
 
 -- The cases that are left by two tests
 
-pub unchanged-left : (r : Change) → OneOf (0 ∷ 1 ∷ []) (tag_of change-type r) → OneOf (1 ∷ 2 ∷ []) (tag_of change-type r)
-    → r ≡ Unchanged
-unchanged-left (Changed v) k l = absurd (⊎_elim (λ z. omega arith) (λ z. omega arith) l)
-unchanged-left Unchanged k l = refl
-unchanged-left (TurnedDown cause place) k l = absurd (⊎_elim (λ z. omega arith) (λ z. omega arith) k)
+pub unchanged-left : (r : Change) → ((cause : Cause) (place : ℕ) → r ≡ TurnedDown cause place → ⊥)
+    → ((v : Move) → r ≡ Changed v → ⊥) → r ≡ Unchanged
+unchanged-left (Changed v) turned changed = absurd (changed v refl)
+unchanged-left Unchanged turned changed = refl
+unchanged-left (TurnedDown cause place) turned changed = absurd (turned cause place refl)
 
-pub done-left : (r : Advice) → OneOf (0 ∷ 1 ∷ []) (tag_of advice-type r) → OneOf (0 ∷ 2 ∷ []) (tag_of advice-type r)
-    → r ≡ Done
-done-left Done k l = refl
-done-left (Send m byte) k l = absurd (⊎_elim (λ z. omega arith) (λ z. omega arith) l)
-done-left (Refused cause place) k l = absurd (⊎_elim (λ z. omega arith) (λ z. omega arith) k)
+pub done-left : (r : Advice) → ((cause : Cause) (place : ℕ) → r ≡ Refused cause place → ⊥)
+    → ((m : Machine) (byte : ℕ) → r ≡ Send m byte → ⊥) → r ≡ Done
+done-left Done turned sent = refl
+done-left (Send m byte) turned sent = absurd (sent m byte refl)
+done-left (Refused cause place) turned sent = absurd (turned cause place refl)

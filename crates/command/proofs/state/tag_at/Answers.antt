@@ -1,0 +1,9 @@
+use Prim.Native.Nat.{◌+◌, ◌*◌}
+use mathlib.Core.Path.{sym, ap, ◌∙◌}
+use Rattle.sheet.specs.Record.{byte}
+use Rattle.command.proofs.States.{tag-place}
+use Rattle.command.proofs.state.tag_at.Goals as goal
+
+pub returns : goal.returns
+returns c = let state = c.args.state.now in
+    ap (λ i. byte state (2 * i + 1)) c.wide.ensures.0 ∙ sym (tag-place state _)
