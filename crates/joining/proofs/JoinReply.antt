@@ -51,6 +51,7 @@ module _ (lent : List ℕ) {b : Bool} (e : b ≡ is_given (goals_in most_goals l
 
 pub each_fits : (m : Model) (goals : Goals) → clear (each_faults m goals) ≡ true → EachFits m goals
 unfolding each_faults
+each_fits m mathlib.Core.List.[] h goal x'' = elim x'' [ ]
 each_fits m (g ∷ goals) h goal (head e) =
     rw e ((goal-passes m g).0 (and_left _ _ (sym (clear-append (goal_faults m g) (each_faults m goals)) ∙ h)))
 each_fits m (g ∷ goals) h goal (tail l) =

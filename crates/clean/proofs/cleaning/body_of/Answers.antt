@@ -1,13 +1,13 @@
+use Prim.Native.Nat.{◌<◌}
+use lib.ListN.{get_or}
 use native.Mathlib.Omega.{arith}
 use Rattle.clean.proofs.Writing.{low-inside, high-inside, body-within, body-there}
 use Rattle.clean.proofs.cleaning.body_of.Goals as goal
 use Rattle.clean.proofs.cleaning.body_of.Goals.{After-shared_slice_known-3-1}
 
-near : (c : After-shared_slice_known-3-1) → place c
+-- a place has two bytes
+near : (c : After-shared_slice_known-3-1) → get_or c.args.places.now c.args.v 0 < 65536
 near c = omega (arith, c.shared_slice_known-3-1.given c.args.v)
-
-pub overflow_cast-at : goal.overflow_cast-at
-overflow_cast-at c = omega (arith, near (goal.at.overflow_cast-at c).After-shared_slice_known-3-1)
 
 pub overflow_add-start : goal.overflow_add-start
 overflow_add-start c = omega (arith, near (goal.at.overflow_add-start c).After-shared_slice_known-3-1)

@@ -14,26 +14,31 @@ pub slice_bounds-modes-end : goal.slice_bounds-modes-end
 slice_bounds-modes-end c = modes-inside (indexed (goal.at.slice_bounds-modes-end c).In_default).1
 
 pub slice_bounds-write-end : goal.slice_bounds-write-end
-slice_bounds-write-end c = sym (length-take-le _ _ (array-share-prefix-modes c))
+slice_bounds-write-end c = sym (length-take-le _ _ (modes-inside (indexed (goal.at.slice_bounds-write-end c).In_default).1))
 
 pub slice_bounds-live-end : goal.slice_bounds-live-end
 slice_bounds-live-end c = live_inside (indexed (goal.at.slice_bounds-live-end c).In_default).1
 
 pub slice_bounds-write-end-in_default : goal.slice_bounds-write-end-in_default
-slice_bounds-write-end-in_default c = sym (length-take-le _ _ (array-share-prefix-live c))
+slice_bounds-write-end-in_default c = sym (length-take-le _ _ (live_inside (indexed (goal.at.slice_bounds-write-end-in_default c).In_default).1))
 
 pub slice_bounds-places-end : goal.slice_bounds-places-end
 slice_bounds-places-end c = indexes-room (indexed (goal.at.slice_bounds-places-end c).In_default).1
 
 pub slice_bounds-write-end-in_default-2 : goal.slice_bounds-write-end-in_default-2
-slice_bounds-write-end-in_default-2 c = sym (length-take-le _ _ (array-share-prefix-places c))
+slice_bounds-write-end-in_default-2 c = sym (length-take-le _ _ (indexes-room (indexed (goal.at.slice_bounds-write-end-in_default-2 c).In_default).1))
 
 pub write-requires : goal.write-requires
 write-requires c = sheet-lent (indexed (goal.at.write-requires c).In_default).1
 
 pub returns-in_default : goal.returns-in_default
-returns-in_default c = let r = rw (clean-read (indexed (goal.at.returns-in_default c).In_default).1 _) c.write.ensures in record { reply = r.0; written = r.1; }
+returns-in_default c = record {
+      reply = rw (clean-read (indexed (goal.at.returns-in_default c).In_default).1 _) c.write.ensures.reply;
+      written = rw (clean-read (indexed (goal.at.returns-in_default c).In_default).1 _) c.write.ensures.written;
+    }
 
 pub returns : goal.returns
-returns c = let r = let e = refused-parse _ _ c.read-reading.ensures.reply c.in-Refused.is in
-    rw (clean-unread _ _ e) (refl, refl) in record { reply = r.0; written = r.1; }
+returns c = let e = refused-parse _ _ c.read-reading.ensures.reply c.in-Refused.is in record {
+      reply = rw (clean-unread _ _ e) refl;
+      written = rw (clean-unread _ _ e) refl;
+    }

@@ -12,8 +12,5 @@ put_record-at-requires c = search machine-room
 pub loop-i-preserved : goal.loop-i-preserved
 loop-i-preserved c = search machine-more
 
-pub shape_of-out : goal.shape_of-out
-shape_of-out c = c.loop-i.invariant.size
-
 pub returns : goal.returns
 returns c = let r = machines-put _ _ _ c.requires.1 c.loop-i.invariant c.loop-i-test.false in record { end = r.0; written = r.1; }

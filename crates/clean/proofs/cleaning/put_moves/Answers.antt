@@ -12,8 +12,5 @@ put_record-at-requires c = search move-room
 pub loop-v-preserved : goal.loop-v-preserved
 loop-v-preserved c = search move-more
 
-pub shape_of-out : goal.shape_of-out
-shape_of-out c = c.loop-v.invariant.size
-
 pub returns : goal.returns
 returns c = let r = put-end _ _ _ _ c.loop-v.invariant c.loop-v-test.false in record { end = r.0; written = r.1; }

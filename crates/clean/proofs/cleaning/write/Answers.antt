@@ -10,13 +10,12 @@ put_machines-moves-requires c = let moves = c.moves_length.ensures.length in
 
 pub put_moves-end-requires : goal.put_moves-end-requires
 put_moves-end-requires c = let moves = c.moves_length.ensures.length in
-    (c.requires.moves, moves-fit _ _ _ _ _ moves c.if-out-length.false c.put_machines-moves.ensures)
+    (c.requires.moves, moves-fit _ _ _ _ _ moves c.if-out-length.false (c.put_machines-moves.ensures.end, c.put_machines-moves.ensures.written))
 
 pub put_header-requires : goal.put_header-requires
 put_header-requires c = let moves = c.moves_length.ensures.length in
-    end_fits _ _ _ _ _ moves c.if-out-length.false c.put_machines-moves.ensures c.put_moves-end.ensures
+    end_fits _ _ _ _ _ moves c.if-out-length.false (c.put_machines-moves.ensures.end, c.put_machines-moves.ensures.written) (c.put_moves-end.ensures.end, c.put_moves-end.ensures.written)
 
 pub returns : goal.returns
-returns c = let r = let moves = c.moves_length.ensures.length in
-    clean-put _ _ _ _ _ moves c.if-out-length.false
-    c.put_machines-moves.ensures c.put_moves-end.ensures c.put_header.ensures in record { reply = r.0; written = r.1; }
+returns c = let moves = c.moves_length.ensures.length in let r = clean-put _ _ _ _ _ moves c.if-out-length.false
+    (c.put_machines-moves.ensures.end, c.put_machines-moves.ensures.written) (c.put_moves-end.ensures.end, c.put_moves-end.ensures.written) c.put_header.ensures in record { reply = r.0; written = r.1; }

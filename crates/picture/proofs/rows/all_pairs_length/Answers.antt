@@ -1,0 +1,19 @@
+use Prim.Native.Nat.{◌-◌}
+use native.Mathlib.Omega.{arith}
+use lib.ListN.{length}
+use Rattle.picture.proofs.RowLoops.{rows-counted-none, rows-counted-next, rows-counted}
+use Rattle.picture.proofs.rows.all_pairs_length.Goals as goal
+
+pub loop-a-init : goal.loop-a-init
+loop-a-init c = rows-counted-none _ _
+
+pub overflow_add-r : goal.overflow_add-r
+overflow_add-r c = let u = c.loop-a.invariant in
+    omega (arith, u.short, u.pieces.inside, c.requires, c.pairs_length-r.ensures.short)
+
+pub loop-a-preserved : goal.loop-a-preserved
+loop-a-preserved c = let len = c.pairs_length-r.ensures in
+    rows-counted-next _ _ c.loop-a.invariant c.loop-a-test.true (len.0 _) len.1
+
+pub returns : goal.returns
+returns c = let r = rows-counted _ _ c.requires c.loop-a.invariant c.loop-a-test.false in record { short = r.0; length = r.1; }
