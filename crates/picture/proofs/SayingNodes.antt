@@ -53,10 +53,11 @@ machines-stay s [] i e = e
 machines-stay s (j ∷ is) i e =
     machines-stay (and_machine s j) is i (by_cases (eqb j i) (λ t. cond-true _ _ t) (λ f. cond-false _ _ f ∙ e))
 
-machines-in : (s : Said) {i : ℕ} {is : List ℕ} → Memᴰ i is → (and_machines s is).group i ≡ s.last
+machines-in : {i : ℕ} (s : Said) {is : List ℕ} → Memᴰ i is → (and_machines s is).group i ≡ s.last
 unfolding and_machines and_machine
-machines-in s {i} {is = j ∷ is} (head e) = machines-stay (and_machine s j) is i (cond-true _ _ (eq-eqb j i (sym e)))
-machines-in s {i} {is = j ∷ is} (tail m) = machines-in (and_machine s j) m
+machines-in {i = i} s {is = []} x'' = elim x'' [ ]
+machines-in {i} s {is = j ∷ is} (head e) = machines-stay (and_machine s j) is i (cond-true _ _ (eq-eqb j i (sym e)))
+machines-in {i} s {is = j ∷ is} (tail m) = machines-in (and_machine s j) m
 
 machines-out : (s : Said) (i : ℕ) (is : List ℕ) → (Memᴰ i is → ⊥) → (and_machines s is).group i ≡ s.group i
 unfolding and_machines and_machine

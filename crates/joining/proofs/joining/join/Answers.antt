@@ -21,8 +21,8 @@ join_goals-requires c = let i = indexed (goal.at.join_goals-requires c).In_defau
 pub returns-in_default : goal.returns-in_default
 returns-in_default c = let i = indexed (goal.at.returns-in_default c).In_default in
     let replies = c.join_goals.ensures in record {
-      reply = rw (join-read _ _ _ i.1) (replies.0 i.0 (indexes-modes i.1) (indexes-machines i.1));
-      written = rw (join-read _ _ _ i.1) (replies.1 i.0 (indexes-modes i.1) (indexes-machines i.1));
+      reply = rw (join-read _ _ _ i.1) (replies.reply i.0 (indexes-modes i.1) (indexes-machines i.1));
+      written = rw (join-read _ _ _ i.1) (replies.written i.0 (indexes-modes i.1) (indexes-machines i.1));
     }
 
 pub returns : goal.returns

@@ -15,8 +15,8 @@ draw_read-requires c = indexed (goal.at.draw_read-requires c).In_default
 pub returns-in_default : goal.returns-in_default
 returns-in_default c = let i = indexed (goal.at.returns-in_default c).In_default in
     let told = c.draw_read.ensures in record {
-      reply = rw (drawn-reply i.1 _) (told.0 i.0 i.1);
-      written = rw (drawn-reply i.1 _) (told.1 i.0 i.1);
+      reply = rw (drawn-reply i.1 _) (told.reply i.0 i.1);
+      written = rw (drawn-reply i.1 _) (told.written i.0 i.1);
     }
 
 pub returns : goal.returns

@@ -30,8 +30,8 @@ write_text-requires c = search groups-shown
 pub returns : goal.returns
 returns c = let ordered = c.ordered-numbers in
     let told = ordered.ensures in
-    let shows = picture-shown _ told.0 told.1 ordered.auto.1.1.0 c.count-groups.ensures in
+    let shows = picture-shown _ told.numbers told.targets ordered.auto.targets c.count-groups.ensures in
     let wrote = c.write_text.ensures in record {
-      reply = λ m i. rw (shows m i) at wrote.0;
-      written = λ m i. rw (shows m i) at wrote.1;
+      reply = λ m i. rw (shows m i) at wrote.reply;
+      written = λ m i. rw (shows m i) at wrote.written;
     }

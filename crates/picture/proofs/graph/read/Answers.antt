@@ -12,22 +12,22 @@ returns-then-n-eq0 c = let r = not-read _ _ (other_text _ (c.matched-found.ensur
 pub slice_bounds-numbers-end : goal.slice_bounds-numbers-end
 slice_bounds-numbers-end c = let r = c.matched-found in
     let long : length r.result.numbers ≡ 64 = search rules in
-    omega (arith, long, r.ensures.1.1.0)
+    omega (arith, long, r.ensures.small.0)
 
 pub slice_bounds-read_matched-end : goal.slice_bounds-read_matched-end
 slice_bounds-read_matched-end c = let r = c.matched-found in
     let long : length r.result.numbers ≡ 64 = search rules in
-    sym (length-take-le _ _ (omega (arith, long, r.ensures.1.1.0)))
+    sym (length-take-le _ _ (omega (arith, long, r.ensures.small.0)))
 
 pub slice_bounds-targets-end : goal.slice_bounds-targets-end
 slice_bounds-targets-end c = let r = c.matched-found in
     let long : length r.result.targets ≡ 32 = search rules in
-    omega (arith, long, r.ensures.1.1.1)
+    omega (arith, long, r.ensures.small.1)
 
 pub slice_bounds-read_matched-end-2 : goal.slice_bounds-read_matched-end-2
 slice_bounds-read_matched-end-2 c = let r = c.matched-found in
     let long : length r.result.targets ≡ 32 = search rules in
-    sym (length-take-le _ _ (omega (arith, long, r.ensures.1.1.1)))
+    sym (length-take-le _ _ (omega (arith, long, r.ensures.small.1)))
 
 pub read_matched-requires : goal.read_matched-requires
 read_matched-requires c = c.matched-found.ensures.read

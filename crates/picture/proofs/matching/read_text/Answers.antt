@@ -37,8 +37,8 @@ returns c = let nodes = c.read_nodes-nodes in
     let some : 0 < nodes.result.count = let z = c.if-nodes-eq0.false in omega arith in
     let more = c.if-machines-nodes.false in
     text-found (record {
-      numbers-size = nodes.auto.1.0 ∙ c.requires.0;
-      targets-size = edges.auto.1.1.1.0 ∙ c.requires.1;
+      numbers-size = nodes.auto.numbers ∙ c.requires.0;
+      targets-size = edges.auto.targets ∙ c.requires.1;
       bits = c.machine_count-machines.ensures.bits (omega arith);
       some = some;
       no_more = more;

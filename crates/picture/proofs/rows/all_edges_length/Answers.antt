@@ -13,7 +13,7 @@ overflow_add-r c = let u = c.loop-a.invariant in
 
 pub loop-a-preserved : goal.loop-a-preserved
 loop-a-preserved c = let len = c.edges_length-r.ensures in
-    rows-counted-next _ _ c.loop-a.invariant c.loop-a-test.true len.0 len.1
+    rows-counted-next _ _ c.loop-a.invariant c.loop-a-test.true len.length len.short
 
 pub returns : goal.returns
 returns c = let r = rows-counted _ _ c.requires c.loop-a.invariant c.loop-a-test.false in record { short = r.0; length = r.1; }

@@ -13,7 +13,7 @@ overflow_add-r c = let u = c.loop-k.invariant in
 
 pub loop-k-preserved : goal.loop-k-preserved
 loop-k-preserved c = let len = c.node_length-r.ensures in
-    rows-counted-next _ _ c.loop-k.invariant c.loop-k-test.true len.0 len.1
+    rows-counted-next _ _ c.loop-k.invariant c.loop-k-test.true len.length len.short
 
 pub returns : goal.returns
 returns c = let r = rows-counted _ _ c.requires c.loop-k.invariant c.loop-k-test.false in record { short = r.0; length = r.1; }

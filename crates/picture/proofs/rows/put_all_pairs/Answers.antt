@@ -15,7 +15,7 @@ put_pairs-end-requires c = let more = c.loop-a-test.true in (
 pub loop-a-preserved : goal.loop-a-preserved
 loop-a-preserved c = let put = c.put_pairs-end in
     let more = c.loop-a-test.true in
-    rows_more _ _ _ _ c.requires.1 c.loop-a.invariant more put.auto.0 put.ensures
+    rows_more _ _ _ _ c.requires.1 c.loop-a.invariant more put.auto.out (put.ensures.end, put.ensures.written)
 
 pub shape_of-out : goal.shape_of-out
 shape_of-out c = c.loop-a.invariant.pieces.size

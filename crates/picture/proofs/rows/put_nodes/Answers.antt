@@ -11,7 +11,7 @@ put_node-end-requires c = rows-room _ _ _ _ c.requires.1 c.loop-k.invariant c.lo
 pub loop-k-preserved : goal.loop-k-preserved
 loop-k-preserved c = let put = c.put_node-end in
     let more = c.loop-k-test.true in
-    rows_more _ _ _ _ c.requires.1 c.loop-k.invariant more put.auto.0 put.ensures
+    rows_more _ _ _ _ c.requires.1 c.loop-k.invariant more put.auto.out (put.ensures.end, put.ensures.written)
 
 pub shape_of-out : goal.shape_of-out
 shape_of-out c = c.loop-k.invariant.pieces.size
