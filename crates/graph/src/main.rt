@@ -2,23 +2,24 @@
 #![tactic(auto)]
 use printer::{load, refusal_in_words, text, within};
 use sheet::refusal::Length;
+use std::io;
 
 // The picture of the sheet that a file is. No text is longer than the buffer.
-fn print_graph(file: &[u8]) {
+fn print_graph(rt: &impl Print, file: &[u8]) -> io::Result<()> {
     let mut buffer = [0u8; 7273];
     let drawn = picture::graph::draw(file, &mut buffer);
     match drawn {
         Length::Bytes(bytes) => {
             let n = within(bytes, &buffer);
-            text(&buffer[..n]);
+            text(rt, &buffer[..n])
         }
-        Length::Refused(cause, place) => refusal_in_words(cause, place),
+        Length::Refused(cause, place) => refusal_in_words(rt, cause, place),
     }
 }
 
 // No longer file has another reply than its first 73,728 bytes.
-fn main() {
+fn main(rt: HostRuntime) -> io::Result<()> {
     let mut file = [0u8; 73728];
-    let n = load(b"sheet.bin", &mut file);
-    print_graph(&file[..n]);
+    let n = load(&rt, b"sheet.bin", &mut file);
+    print_graph(&rt, &file[..n])
 }

@@ -1,5 +1,7 @@
 // Prints the sheet in sheet.bin.
 #![tactic(auto)]
-fn main() {
-    printer::show();
+use std::io;
+
+fn main(rt: HostRuntime) -> io::Result<()> {
+    printer::show(&rt)
 }

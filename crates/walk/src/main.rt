@@ -1,5 +1,7 @@
 // Walks the sheet, the state and the wish in the files here.
 #![tactic(auto)]
-fn main() {
-    walker::walk();
+use std::io;
+
+fn main(rt: HostRuntime) -> io::Result<()> {
+    walker::walk(&rt)
 }
