@@ -1,5 +1,6 @@
 // Prints the picture of the sheet in sheet.bin for Graphviz, or the sheet's refusal.
 #![tactic(auto)]
+
 use printer::{load, refusal_in_words, text, within};
 use sheet::refusal::Length;
 use std::io;

@@ -1,5 +1,6 @@
 // Prints the sheet in sheet.bin.
 #![tactic(auto)]
+
 use std::io;
 
 fn main(rt: HostRuntime) -> io::Result<()> {

@@ -1,5 +1,6 @@
 // Walks the sheet, the state and the wish in the files here.
 #![tactic(auto)]
+
 use std::io;
 
 fn main(rt: HostRuntime) -> io::Result<()> {

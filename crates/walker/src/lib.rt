@@ -1,5 +1,6 @@
 // The walk: reads a sheet, a state and a goal, plans, then asks and obeys, and prints a line for each command.
 #![tactic(auto)]
+
 use command::walking::{Start, Turned, begin, turn};
 use plan::making::Scratch;
 use printer::{labelled, load, refusal_line, text, within};
