@@ -1,4 +1,4 @@
-//! Links the proved library, which `rt staticlib panel` writes.
+//! Links the proved library, which `tools/build panel` writes.
 
 use std::path::Path;
 
@@ -8,7 +8,7 @@ fn main() {
     println!("cargo:rerun-if-changed={}", archive.display());
     if !archive.exists() {
         panic!(
-            "no {}: run `rt staticlib panel` in the repository first",
+            "no {}: run `tools/build panel` in the repository first",
             archive.display()
         );
     }

@@ -1,6 +1,6 @@
 #!/usr/bin/env bash
 # Instructions for one call, by valgrind's callgrind: the difference between
-# 101 calls and 1, divided by 100. Run after `rt staticlib panel`.
+# 101 calls and 1, divided by 100. Run after `tools/build panel`.
 set -eu
 cd "$(dirname "$0")"
 if ! command -v valgrind >/dev/null; then

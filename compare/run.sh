@@ -209,7 +209,9 @@ unwritten() {
 # Runs a launcher where neither a program nor rt is at hand.
 without_rt() {
     mkdir -p "$work/fresh" "$work/few" "$work/folder"
+    mkdir -p "$work/fresh/tools"
     cp launch show walk graph "$work/fresh"
+    cp tools/build "$work/fresh/tools"
     ln -sf "$(command -v dirname)" "$work/few"
     PATH=$work/few "$work/fresh/$1" "$work/folder"
 }
@@ -276,10 +278,10 @@ same_data() {
 root=$PWD
 long_files
 panel_folders
-check "static library" rt staticlib panel
-check "show" rt check show
-check "walk" rt check walk
-check "graph" rt check graph
+check "static library" tools/build panel
+check "show" tools/build show
+check "walk" tools/build walk
+check "graph" tools/build graph
 cut="a record is cut short, or the end is missing"
 check "show reads a long file whole" show_says "$work/long" "refused 2 0: a record of unknown kind or wrong length"
 check "show sees that a long file is cut" show_says "$work/cut" "refused 1 0: $cut"

@@ -3,7 +3,7 @@
  * a tag does, one hangs on the first machine that is to move until the panel has
  * asked once more.
  *
- *     rt staticlib panel
+ *     tools/build panel
  *     gcc -std=c11 -Wall -Wextra -Werror -Iinclude examples/panel.c \
  *         -Ltarget/staticlib -lpanel -o panel
  *     ./panel examples/stove

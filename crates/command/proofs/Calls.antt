@@ -3,10 +3,9 @@
 use Prim.Native.Nat.{ℕ, suc}
 use mathlib.Core.Path.{◌≡◌, refl, sym, ap, subst, ◌∙◌}
 use mathlib.Core.List.{List, [], ◌∷◌, ◌++◌}
-use mathlib.Core.Bool.{Bool}
 use native.Mathlib.Omega.{arith}
 use Rattle.common.specs.Reply.{Reply, given, refused}
-use Rattle.sheet.specs.Model.{Model, move_at}
+use Rattle.sheet.specs.Model.{move_at}
 use Rattle.sheet.specs.Parse.{Parsed}
 use Rattle.command.specs.State.{tag_of, with_mode}
 use Rattle.command.specs.Next.{Next, done, command}

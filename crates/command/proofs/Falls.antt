@@ -1,27 +1,24 @@
 -- Each command lowers the number that falls.
 -- Assumes nothing.
 use Prim.Native.Nat.{ℕ, suc, ◌+◌, ◌-◌, ◌*◌, ◌≤◌, ◌<◌}
-use mathlib.Core.Path.{◌≡◌, sym, ap, ap₂, subst, ◌∙◌}
+use mathlib.Core.Path.{◌≡◌, sym, ap, subst, ◌∙◌}
 use mathlib.Core.List.{List}
-use mathlib.Core.Bool.{Bool, false, not, ◌&&◌, ◌||◌}
+use mathlib.Core.Bool.{Bool, false}
 use native.Mathlib.Omega.{arith}
-use lib.Dec.{leb}
-use Rattle.common.specs.Lists.{up_to, all, find}
 use Rattle.common.proofs.Bools.{by_cases}
 use Rattle.common.proofs.SumsBelow.{sum_below}
 use Rattle.sheet.specs.Model.{Model, move_at}
 use Rattle.sheet.specs.Valid.{Valid}
 use Rattle.plan.specs.Groups.{group_count}
-use Rattle.plan.specs.Modes.{size}
 use Rattle.plan.specs.Usable.{end_mode}
 use Rattle.plan.specs.Table.{Entry}
 use Rattle.plan.specs.Reading.{entry_at}
 use Rattle.plan.specs.Reading.{counted}
 use Rattle.plan.specs.Laws.{TableLaws, CostLaws}
-use Rattle.command.specs.Goal.{Masks, guard_masks, met, allowed}
+use Rattle.command.specs.Goal.{Masks, guard_masks, met}
 use Rattle.command.specs.Attainable.{groups, present}
 use Rattle.command.specs.Covered.{Attains, Covered}
-use Rattle.command.specs.Next.{distance_to, nearest, target_of}
+use Rattle.command.specs.Next.{distance_to, target_of}
 use Rattle.command.proofs.Facts
 use Rattle.command.proofs.Facts.{Sound}
 use Rattle.command.proofs.Following

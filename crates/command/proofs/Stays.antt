@@ -1,7 +1,7 @@
 -- Covered after a move: by what is said of the mode that its group comes to. After the command that a covered goal gets, that is
 -- so by the laws: covered stays.
 -- Assumes nothing.
-use Prim.Native.Nat.{ℕ, ◌≤◌, ◌<◌}
+use Prim.Native.Nat.{ℕ, ◌<◌}
 use mathlib.Core.Path.{◌≡◌, sym, ap, ◌∙◌}
 use mathlib.Core.Logic.{⊎_elim}
 use mathlib.Core.List.{List}

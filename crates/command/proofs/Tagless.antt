@@ -6,19 +6,18 @@ use mathlib.Core.List.{List, [], ◌∷◌, flat_map}
 use mathlib.Core.Bool.{cond, and-true, or-false}
 use native.Mathlib.Omega.{arith}
 use lib.Dec.{eqb}
-use lib.ListN.{length, get_or}
+use lib.ListN.{get_or}
 use lib.Seq.{ext_get_or}
-use Rattle.common.specs.Reply.{Reply, given, refused, Fault, unless, and_then}
+use Rattle.common.specs.Reply.{Reply, given, Fault, unless, and_then}
 use Rattle.common.proofs.Bools.{by_cases}
 use Rattle.common.proofs.Lists.{all-cong}
 use Rattle.sheet.specs.Record.{byte}
 use Rattle.sheet.specs.Model.{Move, Model, move_at}
-use Rattle.sheet.specs.Parse.{Parsed, parse}
 use Rattle.plan.specs.Groups.{members}
 use Rattle.plan.specs.Modes.{mode_number}
 use Rattle.plan.specs.Table.{Entry}
 use Rattle.plan.specs.Reading.{groups_in}
-use Rattle.command.specs.State.{every_second, modes, mode_of, tag_of, with_mode, bad_pair, state_faults}
+use Rattle.command.specs.State.{every_second, modes, tag_of, bad_pair, state_faults}
 use Rattle.command.specs.Goal.{Masks, met}
 use Rattle.command.specs.Attainable.{live_group, dead_end, group_faults, attain_faults}
 use Rattle.command.specs.Next.{Next, holds_inside, holds_outside, unfit, unfit_with, prepare_by, follow_by, follow_with, fulfil, fulfil_with}

@@ -1,5 +1,6 @@
 // Commands: states, goals, the next command, applying one, and runs.
 #![tactic(auto)]
+
 pub mod acting;
 pub mod advising;
 pub mod ancestors;

@@ -11,7 +11,7 @@ use lib.ListN.{length, get_or, length-append, get_or-append}
 use lib.Seq.{get_or_at}
 use Rattle.common.specs.Lists.{up_to, any}
 use Rattle.common.proofs.Lists.{any_append}
-use Rattle.common.proofs.Members.{length-map-up_to, get_or-map-up_to}
+use Rattle.common.proofs.Members.{get_or-map-up_to}
 
 module _ {A : Type 0} (xs : List A) (x : A) where
   pub length-snoc : length (xs ++ (x ∷ [])) ≡ suc (length xs)

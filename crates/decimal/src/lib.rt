@@ -1,5 +1,6 @@
 // Decimal numbers in a text of bytes: written without leading zeros, and read.
 #![tactic(auto)]
+
 pub mod promises;
 pub mod text;
 

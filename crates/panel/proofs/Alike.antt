@@ -16,7 +16,6 @@ use Rattle.clean.specs.Clean.{clean_reply}
 use Rattle.clean.proofs.Cleaned.{read_alike}
 use Rattle.joining.specs.Join.{join_reply}
 use Rattle.picture.specs.Graph.{graph_reply}
-use Rattle.panel.specs.Words.{sheet_reply}
 use Rattle.panel.specs.Alike.{RepliesAlike, AmendedSame}
 
 module _ (sheet other : List ℕ) {d e : Parsed} (a : parse sheet ≡ given d) (b : parse other ≡ given e)

@@ -1,5 +1,6 @@
 // The C interface: exported functions that put replies into 64 bits. Nothing is decided here.
 #![tactic(auto)]
+
 pub mod promises;
 
 ghost use Rattle.std.specs.Prelude.{◌≡◌, ℕ, ◌+◌, ◌*◌, ◌≤◌, length};

@@ -2,7 +2,7 @@
 -- Assumes nothing.
 use Prim.Native.Nat.{ℕ, ◌+◌, ◌≤◌, ◌<◌, zero-le}
 use mathlib.Core.Path.{◌≡◌, refl, ap}
-use mathlib.Core.List.{List, [], ◌∷◌, ◌++◌, map, flat_map, map-map}
+use mathlib.Core.List.{List, ◌++◌, map, flat_map, map-map}
 use mathlib.Core.Bool.{Bool, cond}
 use native.Mathlib.Nat.{le_refl}
 use native.Mathlib.Omega.{arith}

@@ -1,5 +1,6 @@
 // The picture of who needs whom: written as a text, and read back.
 #![tactic(auto)]
+
 pub mod graph;
 pub mod lengths;
 pub mod lines;

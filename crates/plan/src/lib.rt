@@ -1,5 +1,6 @@
 // The plan: groups of machines, routes within them, the bound, and the plan's bytes.
 #![tactic(auto)]
+
 pub mod bounding;
 pub mod grouping;
 pub mod judging;

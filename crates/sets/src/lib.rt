@@ -1,5 +1,6 @@
 // Sets of numbers below 64, each a u64: number i is in the set s where bit i, worth 2 ^ i, is set.
 #![tactic(auto)]
+
 ghost use Rattle.std.specs.Prelude.{◌≡◌, true, false, ◌&&◌, ◌||◌, ℕ, ◌<◌, ◌≤◌, eqb};
 ghost use Rattle.common.specs.Bits.{bit};
 ghost use Rattle.sets.specs.Kept.Sets.{alone, below, union, both, less, raised, lowered, least};

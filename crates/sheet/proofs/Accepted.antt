@@ -9,24 +9,22 @@ use native.Mathlib.Omega.{arith}
 use borrow.Author.Tests.{le-ltb}
 use lib.ListN.{length, get_or, take, length-append}
 use lib.Seq.{length-take-le, take-length, take_all, take-suc, get_or-take}
-use Rattle.common.specs.Lists.{up_to, any}
 use Rattle.common.specs.Reply.{given}
 use Rattle.common.proofs.Places.{Stands, stands-whole, stands-moved, stands-left, stands-right}
 use Rattle.common.proofs.Reply.{clear_both}
 use Rattle.common.proofs.Snoc.{length-snoc}
 use Rattle.common.proofs.Sums.{flat_map-snoc}
 use Rattle.sheet.specs.Record.{record_of}
-use Rattle.sheet.specs.Model.{Move, Model, absent_move, machine_count, move_count, mode_count, move_at, is_same_move}
+use Rattle.sheet.specs.Model.{Move, Model, absent_move, machine_count, move_count, mode_count, move_at}
 use Rattle.sheet.specs.Model.{with_machine, with_move, with_moves}
-use Rattle.sheet.specs.Amend.{Amendment, replace, withdraw, amendment_of, named, amend, Draft, draft_machine, draft_move}
-use Rattle.sheet.specs.Amend.{draft_amended, amended_model, Acts, Amends, none, more}
+use Rattle.sheet.specs.Amend.{Amendment, replace, withdraw, amendment_of, amend, Draft, draft_machine, draft_move}
+use Rattle.sheet.specs.Amend.{draft_amended, Acts, Amends, none, more}
 use Rattle.sheet.specs.Faults.{move_faults, late_faults, faults_of}
 use Rattle.sheet.specs.Valid.{ValidMove, Valid}
 use Rattle.sheet.specs.Faulty.{CommandRight}
 use Rattle.sheet.specs.Parse.{Parsed, Progress, extended, parse}
 use Rattle.sheet.specs.Write.{machine_body, move_body, machine_records, move_records, amendment_record, amended_bytes}
-use Rattle.sheet.specs.Meaning.{Amended}
-use Rattle.sheet.proofs.Fits.{MoveSize, MovePasses, AmendmentPasses}
+use Rattle.sheet.proofs.Fits.{MoveSize, MovePasses}
 use Rattle.sheet.proofs.Valid.{same_move}
 use Rattle.sheet.proofs.Passes.{machine-clear, move-clear, end-clear, replace-clear, withdraw-clear}
 use Rattle.sheet.proofs.Amended.{acts-some, acts-amend, valid-amended}

@@ -2,19 +2,19 @@
 -- Assumes nothing.
 use Prim.Native.Nat.{ℕ, suc, ◌≤◌, ◌<◌}
 use mathlib.Core.Path.{◌≡◌, refl, sym, ap, subst, ◌∙◌}
-use mathlib.Core.Bool.{Bool, true, false, cond, ◌&&◌}
+use mathlib.Core.Bool.{true, cond}
 use mathlib.Core.List.Memᴰ
-use mathlib.Core.List.{List, [], ◌∷◌, ◌++◌, Memᴰ}
+use mathlib.Core.List.{List, ◌∷◌, Memᴰ}
 use native.Mathlib.Omega.{arith}
-use borrow.Author.Tests.{eqb-true, eqb-false, ltb-true, ltb-false, lt-ltb, le-ltb, eq-eqb}
+use borrow.Author.Tests.{eqb-true, eqb-false, ltb-true, ltb-false}
 use lib.Dec.{eqb, ltb}
 use lib.ListN.{length, get_or, take, drop, length-append}
-use lib.Seq.{split_at, length-take-le, get_or_at}
+use lib.Seq.{split_at, get_or_at}
 use Rattle.common.specs.Lists.{any}
-use Rattle.common.proofs.Bools.{by_cases, and_intro, true-false, false-of-not-true}
+use Rattle.common.proofs.Bools.{by_cases, false-of-not-true}
 use Rattle.common.proofs.Lists.{any-intro, any_some}
 use Rattle.common.proofs.Search.{position-holds, position_some, position-is}
-use Rattle.sheet.specs.Model.{Move, Model, absent_move, move_count, move_at, is_same_move, with_moves}
+use Rattle.sheet.specs.Model.{Move, Model, absent_move, is_same_move, with_moves}
 use Rattle.sheet.specs.Amend.{Amendment, replace, withdraw, named, instead, standing_at, exchanged, amend, Acts}
 use Rattle.sheet.specs.Valid.{ValidMove, Valid}
 use Rattle.sheet.proofs.Same.{same-intro, same-fields}

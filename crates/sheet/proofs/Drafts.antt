@@ -1,21 +1,21 @@
 -- What a record that passes does to a draft: the step of every induction over a sheet.
 -- Assumes nothing.
-use Prim.Native.Nat.{ℕ, suc, ◌≤◌, ◌<◌}
-use mathlib.Core.Path.{◌≡◌, refl, sym, ap, subst, ◌∙◌}
+use Prim.Native.Nat.{ℕ, ◌≤◌}
+use mathlib.Core.Path.{◌≡◌, refl, sym, ap, subst}
 use mathlib.Core.Logic.{◌⊎◌, inl, inr, ⊎_elim}
 use mathlib.Core.List.{List, [], ◌∷◌, ◌++◌}
 use mathlib.Core.Bool.{false}
 use native.Mathlib.Omega.{arith}
 use borrow.Author.Tests.{eqb-true, ltb-false}
-use lib.Dec.{eqb, ltb}
+use lib.Dec.{eqb}
 use lib.ListN.{length}
 use Rattle.common.specs.Reply.{given}
 use Rattle.common.proofs.Bools.{by_cases, true-false}
 use Rattle.common.proofs.Reply.{Clear, clear-left, clear-right}
 use Rattle.common.proofs.Snoc.{length-snoc}
 use Rattle.sheet.specs.Record.{byte, part}
-use Rattle.sheet.specs.Model.{Move, Model, move_count, move_of, with_machine, with_move, with_moves}
-use Rattle.sheet.specs.Amend.{Amendment, replace, withdraw, amendment_of, named, amend}
+use Rattle.sheet.specs.Model.{Move, move_count, move_of, with_machine, with_move, with_moves}
+use Rattle.sheet.specs.Amend.{replace, amendment_of, amend}
 use Rattle.sheet.specs.Amend.{Draft, empty_draft, draft_machine, draft_move, draft_amended, amended_model}
 use Rattle.sheet.specs.Faults.{move_faults, late_faults, faults_of}
 use Rattle.sheet.specs.Valid.{ValidMove, Valid}

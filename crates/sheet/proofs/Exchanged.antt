@@ -1,16 +1,14 @@
 -- A list with another element, or none, in the place of one: its length and its elements.
 -- Assumes nothing.
 use Prim.Native.Nat.{ℕ, suc, ◌+◌, ◌-◌, ◌≤◌, ◌<◌}
-use mathlib.Core.Path.{◌≡◌, refl, sym, ap, ap₂, ◌∙◌}
+use mathlib.Core.Path.{◌≡◌, sym, ap, ap₂, ◌∙◌}
 use mathlib.Core.List.{List, [], ◌∷◌, ◌++◌, map, map-append}
 use native.Mathlib.Omega.{arith}
-use borrow.Author.Tests.{eqb-true, eqb-false, ltb-true, ltb-false}
-use lib.Dec.{eqb, ltb}
 use lib.ListN.{length, get_or, set, take, drop, length-append, length-set, length-drop, get_or-append}
-use lib.Seq.{length-take-le, set_split, split_at, take_at, drop-append-add, get_or-append-add, get_or-take, get_or-drop}
+use lib.Seq.{length-take-le, set_split, take_at, drop-append-add, get_or-append-add, get_or-take, get_or-drop}
 use lib.Seq.{get_or-set_same, get_or-set_other}
 use Rattle.common.proofs.Lists.{map-take, map-drop}
-use Rattle.sheet.specs.Amend.{Amendment, replace, withdraw, instead, exchanged}
+use Rattle.sheet.specs.Amend.{exchanged}
 
 -- what stands in the place of the element between those before and those behind it
 pub exchanged-at : {A : Type 0} (before : List A) (old : A) (behind new : List A) (x : ℕ) → length before ≡ x

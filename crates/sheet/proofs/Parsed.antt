@@ -17,7 +17,7 @@ use Rattle.common.proofs.Reply.{Clear}
 use Rattle.common.proofs.Snoc.{length-snoc, snoc-each}
 use Rattle.sheet.specs.declared.record.Record.TheVariants.{Whole}
 use Rattle.sheet.specs.Record.{record_at, part, body_at}
-use Rattle.sheet.specs.Model.{Move, Model, absent_move, machine_count, move_count, move_at, move_of, is_same_move}
+use Rattle.sheet.specs.Model.{Move, absent_move, machine_count, move_count, move_at, move_of, is_same_move}
 use Rattle.sheet.specs.Amend.{Amendment, replace, amendment_of, named, instead, standing_at, exchanged, amend, Draft}
 use Rattle.sheet.specs.Faults.{faults_of, end_faults}
 use Rattle.sheet.specs.Valid.{Valid}

@@ -1,16 +1,16 @@
 -- A valid machine and a valid move of the model pass the causes 2 and 4 to 8: the other way round of `Fits`.
 -- Assumes nothing.
-use Prim.Native.Nat.{ℕ, zero, suc, ◌-◌, ◌%◌, ◌≤◌, ◌<◌}
+use Prim.Native.Nat.{ℕ, zero, suc, ◌-◌, ◌<◌}
 use mathlib.Core.Path.{◌≡◌, refl, sym}
 use mathlib.Core.List.{List}
-use mathlib.Core.Bool.{Bool, true, false, ◌&&◌}
+use mathlib.Core.Bool.{false, ◌&&◌}
 use native.Mathlib.Numerals.{sub-one}
 use native.Mathlib.Omega.{arith}
-use borrow.Author.Tests.{lt-leb, le-ltb, eq-eqb, ne_eqb, lt-ltb, eqb-true}
-use lib.Dec.{eqb, ltb, leb}
+use borrow.Author.Tests.{lt-leb, le-ltb, eq-eqb, ne_eqb, lt-ltb}
+use lib.Dec.{ltb, leb}
 use lib.ListN.{length}
 use Rattle.common.specs.Lists.{up_to}
-use Rattle.common.proofs.Bools.{or-false-intro, not-of-true, and_left, and_right, false-of-not-true}
+use Rattle.common.proofs.Bools.{or-false-intro, not-of-true, false-of-not-true}
 use Rattle.common.proofs.Lists.{any-fails}
 use Rattle.common.proofs.Members.{up_to-below, mem_index}
 use Rattle.common.proofs.Reply.{Clear}

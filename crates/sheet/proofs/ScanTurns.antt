@@ -1,6 +1,6 @@
 -- One turn of reading machines and moves: where a whole record that has been judged leads.
 -- Assumes nothing.
-use Prim.Native.Nat.{ℕ, suc, ◌+◌, ◌-◌, ◌*◌, ◌≤◌, ◌<◌}
+use Prim.Native.Nat.{ℕ, ◌+◌, ◌-◌, ◌≤◌, ◌<◌}
 use mathlib.Core.Path.{◌≡◌, refl, sym, ap, ap₂, ◌∙◌}
 use mathlib.Core.Bool.{Bool, true, false, not}
 use mathlib.Core.List.{List, [], ◌∷◌, ◌++◌, map, map-append}
@@ -16,7 +16,7 @@ use Rattle.common.specs.Reply.{given, refused, fault, unless}
 use Rattle.common.proofs.Members.{get_or-map}
 use Rattle.common.proofs.Pad.{get_or-pad, length-pad}
 use Rattle.common.proofs.Reply.{unless-clear, unless-first}
-use Rattle.common.proofs.Snoc.{length-snoc, snoc-each}
+use Rattle.common.proofs.Snoc.{snoc-each}
 use Rattle.sheet.specs.declared.record.Record.{Record}
 use Rattle.sheet.specs.declared.record.Record.TheVariants.{Whole}
 use Rattle.sheet.specs.declared.refusal.Cause.{Cause}

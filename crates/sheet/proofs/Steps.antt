@@ -11,7 +11,7 @@ use lib.Dec.{eqb, ltb, leb}
 use lib.ListN.{length}
 use Rattle.common.specs.Lists.{any}
 use Rattle.common.specs.Reply.{Reply, given, refused, Fault, fault, unless}
-use Rattle.common.proofs.Bools.{by_cases, true-false, or-false-left, or-false-right}
+use Rattle.common.proofs.Bools.{by_cases, true-false}
 use Rattle.common.proofs.Reply.{Clear, unless-clear, unless-append, given-clear, refused-anyway}
 use Rattle.sheet.specs.declared.record.Record.{Record}
 use Rattle.sheet.specs.declared.record.Record.TheVariants.{Whole}
@@ -22,7 +22,7 @@ use Rattle.sheet.specs.Refusal.{number_of}
 use Rattle.sheet.specs.Record.{byte, record_at, body_at}
 use Rattle.sheet.specs.Model.{Model, machine_count, move_count, move_of, is_same_move}
 use Rattle.sheet.specs.Amend.{Amendment, amendment_of, named, Draft}
-use Rattle.sheet.specs.Faults.{bad_move, bad_command, machine_faults, move_faults, late_faults, end_faults}
+use Rattle.sheet.specs.Faults.{bad_move, bad_command, move_faults, late_faults}
 use Rattle.sheet.specs.Faults.{unamendable, replace_faults, withdraw_faults, faults_of}
 use Rattle.sheet.specs.Parse.{Progress, amended_by, Turn, more, ended, extended, turn_at, turn_of}
 use Rattle.sheet.specs.Kept.Held.{fine, judged_of, body_faults, own_move_faults, own_replace_faults, own_withdraw_faults}
@@ -30,7 +30,7 @@ use Rattle.sheet.specs.Kept.Held.{own_faults, later_faults}
 use Rattle.sheet.proofs.Records.{whole-starts, whole-within, body-part, part_length}
 use Rattle.sheet.proofs.Fits.{MachinePasses, MoveSize, machine-passes, length-fits, parts}
 use Rattle.sheet.proofs.Drafts.{with_machine_read, with_move_read, reads-machine, reads-move, reads-amendment}
-use Rattle.sheet.proofs.Judging.{own-machine, own-move, own-end, own-replace, own-withdraw, own-unknown}
+use Rattle.sheet.proofs.Judging.{own-machine, own-move, own-replace, own-withdraw, own-unknown}
 
 -- 8 for a command that an earlier move has, and 21, which are judged after a move's own causes
 abbrev pub repeated : Draft → ℕ → List ℕ → List Fault

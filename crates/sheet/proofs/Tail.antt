@@ -1,10 +1,10 @@
 -- One turn of reading amendments: where a whole record that has been judged leads.
 -- Assumes nothing.
-use Prim.Native.Nat.{ℕ, suc, ◌+◌, ◌-◌, ◌*◌, ◌≤◌, ◌<◌}
-use mathlib.Core.Path.{◌≡◌, refl, sym, ap, ap₂, subst, ◌∙◌}
-use mathlib.Core.Logic.{◌⊎◌, ⊎_elim}
-use mathlib.Core.Bool.{Bool, true, false, not, cond}
-use mathlib.Core.List.{List, [], ◌∷◌, ◌++◌, map}
+use Prim.Native.Nat.{ℕ, ◌+◌, ◌-◌, ◌≤◌, ◌<◌}
+use mathlib.Core.Path.{◌≡◌, refl, sym, ap, ap₂, ◌∙◌}
+use mathlib.Core.Logic.{⊎_elim}
+use mathlib.Core.Bool.{Bool, true, false, cond}
+use mathlib.Core.List.{List, [], ◌∷◌, map}
 use native.Mathlib.Omega.{arith}
 use borrow.Author.Tests.{ltb-true, ltb-false, lt-ltb, le-ltb, eqb-true, eqb-false}
 use mir.Val.{Fits}
@@ -14,7 +14,7 @@ use lib.ListN.{length, get_or, set, take, drop, length-map, length-set}
 use lib.Seq.{get_or-set_same, get_or-set_other}
 use Rattle.common.specs.Lists.{any, filter, position, pad}
 use Rattle.common.specs.Reply.{given, refused, fault, unless}
-use Rattle.common.proofs.Bools.{by_cases, true-false}
+use Rattle.common.proofs.Bools.{by_cases}
 use Rattle.common.proofs.Lists.{any-fails, any-intro, any-map, filter-keeps, filter-drops, filter-from, filter-holds, filter-mem}
 use Rattle.common.proofs.Members.{mem-get_or, mem_index}
 use Rattle.common.proofs.Reply.{unless-clear, unless-first, unless-later}
@@ -31,11 +31,11 @@ use Rattle.sheet.specs.declared.amending.Left.{Left}
 use Rattle.sheet.specs.declared.amending.Amendment.{Amendment as Asked}
 use Rattle.sheet.specs.Refusal.{number_of}
 use Rattle.sheet.specs.Index.{index_of, index_reply, sheet_of}
-use Rattle.sheet.specs.Record.{byte, word, record_at, body_at}
+use Rattle.sheet.specs.Record.{word, record_at, body_at}
 use Rattle.sheet.specs.Model.{Move, Model, absent_move, move_of, is_same_move}
-use Rattle.sheet.specs.Amend.{Amendment, replace, withdraw, amendment_of, named, instead, standing_at, exchanged, amend}
+use Rattle.sheet.specs.Amend.{Amendment, amendment_of, named, instead, standing_at, exchanged, amend}
 use Rattle.sheet.specs.Faults.{late_faults}
-use Rattle.sheet.specs.Parse.{Progress, amended_by, finished, more, ended, turn_of, parse_from, parse}
+use Rattle.sheet.specs.Parse.{Progress, amended_by, finished, more, turn_of, parse}
 use Rattle.sheet.specs.Kept.Held.{fine, judged_of, own_faults, Held}
 use Rattle.sheet.specs.Kept.Sent.{key_of, Small, Sent, Keyed}
 use Rattle.sheet.specs.Kept.Scanned.{move_there, is_place, Named, Stood, Amending}
@@ -44,9 +44,9 @@ use Rattle.sheet.proofs.Exchanged.{map-exchanged}
 use Rattle.sheet.proofs.Judging.{passed-small}
 use Rattle.sheet.proofs.Keys.{key-repeats}
 use Rattle.sheet.proofs.Ranks.{place_is, is-place, place-exchanged, rank_is}
-use Rattle.sheet.proofs.Records.{whole-at, whole-starts, body-whole, body-is-bytes}
+use Rattle.sheet.proofs.Records.{whole-at, body-whole, body-is-bytes}
 use Rattle.sheet.proofs.Same.{same-swaps, same_alike}
-use Rattle.sheet.proofs.Steps.{repeated, unnamed, ends-behind, turn-faulty, MoveFits, AmendmentFits}
+use Rattle.sheet.proofs.Steps.{unnamed, ends-behind, turn-faulty, MoveFits, AmendmentFits}
 use Rattle.sheet.proofs.Steps.{machine-fits, move-fits, turn-move, turn_end, amendment-fits, turn-amendment}
 use Rattle.sheet.proofs.Steps.{none-stands, too_many, stands-to-amend}
 use Rattle.sheet.proofs.Scanning.{leads-on, leads-to-end, leads-to-refusal, leads-to-cut, reading-given, reading-index}

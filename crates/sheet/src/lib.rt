@@ -1,5 +1,6 @@
 // The sheet: records, the sheet's limits, the refusals 1 to 8 and 21, and the index of a sheet that was read.
 #![tactic(auto)]
+
 mod amending;
 pub mod bits;
 pub mod index;

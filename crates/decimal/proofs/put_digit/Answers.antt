@@ -4,4 +4,4 @@ use Rattle.decimal.proofs.put_digit.Goals as goal
 
 pub returns : goal.returns
 unfolding digit
-returns c = let r = put_byte _ _ _ c.requires in record { end = r.0; written = r.1; }
+returns c = let r = put_byte _ _ _ c.requires in record { end = r.0; written = r.1 }

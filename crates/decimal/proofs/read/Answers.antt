@@ -1,7 +1,5 @@
 use mathlib.Core.Path.{sym, ◌∙◌}
-use mathlib.Core.Logic.{⊎_elim}
 use native.Mathlib.Omega.{arith}
-use borrow.Author.Tests.{not-true, not-false}
 use Rattle.decimal.specs.Decimal.{digit}
 use Rattle.decimal.proofs.Digits.{digit-within}
 use Rattle.decimal.proofs.Short.{digit-inside, none_read, zero-read}
@@ -33,7 +31,7 @@ read_on-requires c =
       small = c.value_at-first.ensures.1;
       value = omega (arith, c.value_at-first.ensures.0, (digit-within _ first).0);
       ends = λ z. elim c.else-first-eq0.branch [
-        else-first-eq0-via-then-first-eq0+else-digit_at w ↦ sym w.digit_at-then-first-eq0.ensures ∙ w.if-digit_at.false
-      | else-first-eq0-via-else-first-eq0 w ↦ absurd (w.if-first-eq0.false z)
+        | else-first-eq0-via-then-first-eq0+else-digit_at w ↦ sym w.digit_at-then-first-eq0.ensures ∙ w.if-digit_at.false
+        | else-first-eq0-via-else-first-eq0 w ↦ absurd (w.if-first-eq0.false z)
       ];
     }

@@ -1,6 +1,5 @@
 use mathlib.Core.Path.{sym, ◌∙◌}
 use native.Mathlib.Omega.{arith}
-use Prim.Native.Nat.{◌-◌}
 use Rattle.decimal.proofs.Short.{digit-inside, read_first, read_next, read-over, read-end}
 use Rattle.decimal.proofs.read_on.Goals as goal
 

@@ -19,5 +19,4 @@ returns c = (
     (digit-within _
         c.requires).1,
   ),
-
 )

@@ -9,6 +9,6 @@ length_word-requires c = let j = c.clean in
 
 pub returns : goal.returns
 returns c = let j = c.clean.ensures in record {
-      reply = c.length_word.ensures ∙ ap word_of j.reply;
-      written = j.written;
-    }
+  reply = c.length_word.ensures ∙ ap word_of j.reply;
+  written = j.written;
+}

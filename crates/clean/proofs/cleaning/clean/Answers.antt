@@ -33,12 +33,12 @@ write-requires c = sheet-lent (indexed (goal.at.write-requires c).In_default).1
 
 pub returns-in_default : goal.returns-in_default
 returns-in_default c = record {
-      reply = rw (clean-read (indexed (goal.at.returns-in_default c).In_default).1 _) c.write.ensures.reply;
-      written = rw (clean-read (indexed (goal.at.returns-in_default c).In_default).1 _) c.write.ensures.written;
-    }
+  reply = rw (clean-read (indexed (goal.at.returns-in_default c).In_default).1 _) c.write.ensures.reply;
+  written = rw (clean-read (indexed (goal.at.returns-in_default c).In_default).1 _) c.write.ensures.written;
+}
 
 pub returns : goal.returns
 returns c = let e = refused-parse _ _ c.read-reading.ensures.reply c.in-Refused.is in record {
-      reply = rw (clean-unread _ _ e) refl;
-      written = rw (clean-unread _ _ e) refl;
-    }
+  reply = rw (clean-unread _ _ e) refl;
+  written = rw (clean-unread _ _ e) refl;
+}

@@ -1,4 +1,4 @@
-use Prim.Native.Nat.{◌+◌, ◌-◌, ◌≤◌}
+use Prim.Native.Nat.{◌+◌, ◌≤◌}
 use native.Mathlib.Omega.{arith}
 use lib.ListN.{length}
 use Rattle.sheet.proofs.Pieces.{counted_none}
@@ -24,4 +24,4 @@ pub loop-v-preserved : goal.loop-v-preserved
 loop-v-preserved c = search moves_next
 
 pub returns : goal.returns
-returns c = let r = moves-counted _ _ c.loop-v.invariant c.requires c.loop-v-test.false in record { short = r.0; length = r.1; }
+returns c = let r = moves-counted _ _ c.loop-v.invariant c.requires c.loop-v-test.false in record { short = r.0; length = r.1 }

@@ -1,4 +1,3 @@
-use Prim.Native.Nat.{◌-◌}
 use Rattle.sheet.proofs.Pieces.{put-start}
 use Rattle.clean.proofs.Writing.{machine-room, machine-more, machines-put}
 use Rattle.clean.proofs.cleaning.put_machines.Goals as goal
@@ -13,4 +12,4 @@ pub loop-i-preserved : goal.loop-i-preserved
 loop-i-preserved c = search machine-more
 
 pub returns : goal.returns
-returns c = let r = machines-put _ _ _ c.requires.1 c.loop-i.invariant c.loop-i-test.false in record { end = r.0; written = r.1; }
+returns c = let r = machines-put _ _ _ c.requires.1 c.loop-i.invariant c.loop-i-test.false in record { end = r.0; written = r.1 }

@@ -1,4 +1,3 @@
-use Prim.Native.Nat.{◌-◌}
 use Rattle.sheet.proofs.Pieces.{put-start, put-end}
 use Rattle.clean.proofs.Writing.{move-room, move-more}
 use Rattle.clean.proofs.cleaning.put_moves.Goals as goal
@@ -13,4 +12,4 @@ pub loop-v-preserved : goal.loop-v-preserved
 loop-v-preserved c = search move-more
 
 pub returns : goal.returns
-returns c = let r = put-end _ _ _ _ c.loop-v.invariant c.loop-v-test.false in record { end = r.0; written = r.1; }
+returns c = let r = put-end _ _ _ _ c.loop-v.invariant c.loop-v-test.false in record { end = r.0; written = r.1 }

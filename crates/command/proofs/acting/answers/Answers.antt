@@ -7,9 +7,9 @@ use Rattle.command.proofs.acting.answers.Goals.{then-body-m-via-then-body-m}
 pub returns-then-body-m : goal.returns-then-body-m
 returns-then-body-m c =
     elim c.then-body-m.branch [
-      then-body-m-via-then-body-m w ↦ other-machine _ _ _ _ _ w.if-body-m.true
-    | then-body-m-via-else-body-m+then-body-mode w ↦ other-mode _ _ _ _ _ w.if-body-mode.true-raw
-    | then-body-m-via-else-body-m+else-body-mode+then-body-command w ↦ other-command _ _ _ _ _ w.if-body-command.true-raw
+      | then-body-m-via-then-body-m w ↦ other-machine _ _ _ _ _ w.if-body-m.true
+      | then-body-m-via-else-body-m+then-body-mode w ↦ other-mode _ _ _ _ _ w.if-body-mode.true-raw
+      | then-body-m-via-else-body-m+else-body-mode+then-body-command w ↦ other-command _ _ _ _ _ w.if-body-command.true-raw
     ]
 
 pub returns : goal.returns

@@ -1,4 +1,3 @@
-use Prim.Native.Nat.{◌-◌}
 use Rattle.command.proofs.ActingLoops.{holding-none, holding-next, holding-fails, holding-end}
 use Rattle.command.proofs.acting.ready.Goals as goal
 

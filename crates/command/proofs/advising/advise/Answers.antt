@@ -1,8 +1,6 @@
-use Prim.Native.Nat.{ℕ}
-use mathlib.Core.Path.{◌≡◌, sym, ◌∙◌}
-use mathlib.Core.List.{List, map}
+use mathlib.Core.Path.{◌≡◌, sym}
 use native.Mathlib.Omega.{arith}
-use lib.ListN.{length, length-map}
+use lib.ListN.{length}
 use Rattle.sheet.proofs.Indexed.{indexes-room}
 use Rattle.plan.proofs.SheetNumbers.{places-lent}
 use Rattle.command.proofs.LeftUnmet.{none_left}
@@ -68,16 +66,16 @@ slice_bounds-put_lives-end-4 c = search lengths
 
 pub put_lives-requires : goal.put_lives-requires
 put_lives-requires c = let p = c.requires.0 in (
-      (
-        p.0,
-        _,
-        opened-lives p.2 c.zeros-zeros.ensures (opened-members p.2 c.members-machines.ensures),
-      ),
-      opened-count p.2,
-      omega (arith, c.zeros-zeros.type_inv),
-      sym (sizes-long p.2),
-      omega (arith, c.members-machines.type_inv),
-    )
+  (
+    p.0,
+    _,
+    opened-lives p.2 c.zeros-zeros.ensures (opened-members p.2 c.members-machines.ensures),
+  ),
+  opened-count p.2,
+  omega (arith, c.zeros-zeros.type_inv),
+  sym (sizes-long p.2),
+  omega (arith, c.members-machines.type_inv),
+)
 
 pub slice_bounds-numbers-end-4 : goal.slice_bounds-numbers-end-4
 slice_bounds-numbers-end-4 c = opened-within c.requires.0.2

@@ -15,11 +15,11 @@ sought : (c : After-allowed_sets-wanted) → let a = c.args in
     Sought a.facts.now a.zeros.now a.named.now a.machines.now a.masks.now c.allowed_sets-wanted.result
     a.left c.upstream_of-above.result c.join.result
 sought c = record {
-      fits = omega arith;
-      up = c.upstream_of-above.ensures;
-      joined = c.join.ensures;
-      allowed = c.allowed_sets-wanted.ensures;
-    }
+  fits = omega arith;
+  up = c.upstream_of-above.ensures;
+  joined = c.join.ensures;
+  allowed = c.allowed_sets-wanted.ensures;
+}
 
 pub numbers-own-requires : goal.numbers-own-requires
 numbers-own-requires c = search pursued-few
@@ -48,14 +48,14 @@ failed-requires c = let (m, _, q) = c.requires.0 in
 
 pub cover-verdict-requires : goal.cover-verdict-requires
 cover-verdict-requires c = let p = c.requires in (
-      (
-        p.0.0,
-        _,
-        p.0.1,
-        pursued-uncertain p.0.2 (sought (goal.at.cover-verdict-requires c).After-allowed_sets-wanted) c.numbers-own.ensures c.failed.ensures,
-      ),
-      omega (arith, c.allowed_sets-wanted.type_inv),
-    )
+  (
+    p.0.0,
+    _,
+    p.0.1,
+    pursued-uncertain p.0.2 (sought (goal.at.cover-verdict-requires c).After-allowed_sets-wanted) c.numbers-own.ensures c.failed.ensures,
+  ),
+  omega (arith, c.allowed_sets-wanted.type_inv),
+)
 
 pub bounds-wanted-k : goal.bounds-wanted-k
 bounds-wanted-k c = let q = c.requires.0.2 in

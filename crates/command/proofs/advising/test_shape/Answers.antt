@@ -37,11 +37,11 @@ judged c = let i = c.requires.1 in
 opened : (c : After-in_shape) → c.in_shape.result ≡ true → Opened c.requires.0 c.args.file.now c.args.plan.now c.args.sheet
     c.of-groups.result c.starts-starts.result
 opened c shaped = record {
-      indexes = c.requires.1;
-      shaped = sym (judged c) ∙ shaped;
-      outlined = kept c;
-      long = omega (arith, c.starts-starts.type_inv);
-    }
+  indexes = c.requires.1;
+  shaped = sym (judged c) ∙ shaped;
+  outlined = kept c;
+  long = omega (arith, c.starts-starts.type_inv);
+}
 
 pub numbers_fit-requires : goal.numbers_fit-requires
 numbers_fit-requires c = search few-machines

@@ -27,8 +27,8 @@ loop-left-preserved c =
     pass-next c.requires.1 c.loop-left.invariant some
     c.join.ensures c.has.ensures
     (elim c.if-has.branch [
-      then-has w ↦ inl (w.if-has.true, w.r-is ∙ w.join-r.ensures)
-    | else-has w ↦ inr (w.if-has.false, w.r-is)
+      | then-has w ↦ inl (w.if-has.true, w.r-is ∙ w.join-r.ensures)
+      | else-has w ↦ inr (w.if-has.false, w.r-is)
     ])
 
 pub returns : goal.returns

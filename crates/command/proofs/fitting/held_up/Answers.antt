@@ -1,4 +1,3 @@
-use Prim.Native.Nat.{◌-◌}
 use native.Mathlib.Omega.{arith}
 use Rattle.command.proofs.HeldLoop.{held_none, held-there, held-group, held_next, held-end}
 use Rattle.command.proofs.Placing.{placed-inside}

@@ -1,4 +1,3 @@
-use Prim.Native.Nat.{◌-◌}
 use Rattle.command.proofs.EachMachine.{placed-bytes, mode-inside, place_inside, next_fits}
 use Rattle.command.proofs.HeldLoop.{held-group}
 use Rattle.command.proofs.MaskLoop.{unmet-none, unmet-next, unmet-end}

@@ -1,4 +1,3 @@
-use Prim.Native.Nat.{◌-◌}
 use native.Mathlib.Omega.{arith}
 use Rattle.command.proofs.WishedGoal.{wished-none, wished-next, wished-end}
 use Rattle.command.proofs.goal.wished.Goals as goal

@@ -1,20 +1,17 @@
-use Prim.Native.Nat.{ℕ, ◌<◌}
+use Prim.Native.Nat.{ℕ}
 use mathlib.Core.Path.{◌≡◌, refl}
 use mathlib.Core.List.{List}
 use mathlib.Core.Bool.{false}
 use native.Mathlib.Omega.{arith}
 use lib.ListN.{length, get_or}
 use lib.Dec.{leb}
-use borrow.Author.Rules.{rules}
 use borrow.Author.Tests.{leb-false}
 use Rattle.sheet.specs.Record.{body_at}
-use Rattle.plan.specs.Groups.{group_count}
-use Rattle.plan.specs.Reading.{groups_in}
 use Rattle.command.specs.Kept.Question.{machines_in, numbers_in}
 use Rattle.command.proofs.Looked.{kept-group, kept_small, kept-fits}
 use Rattle.command.proofs.Placing.{placed-known, kept-held}
 use Rattle.command.proofs.Startable.{Toward, Led, led-placed, led-present, led-move, led-valid, led-long, led-some}
-use Rattle.command.proofs.Startable.{led-numbered, led-inside, Passed, passed, passed-own}
+use Rattle.command.proofs.Startable.{led-numbered, led-inside, passed, passed-own}
 use Rattle.command.proofs.Startable.{entry-far, entry_absent, entry-elsewhere, entry-held}
 use Rattle.command.proofs.Startable.{entry-outside, entry-idle, entry-prepares}
 use Rattle.command.proofs.Waiting.{prepare-sends, prepare-valid, prepare-there, prepare-lower, prepare-allowed}
@@ -37,9 +34,9 @@ pub fulfil-returns-then-cell : goal.fulfil-returns-then-cell
 fulfil-returns-then-cell t c m wish kept l below fits =
     let toward = c.toward-cell.ensures in
     elim c.then-cell.branch [
-      fulfil-then-cell-via-then-cell w ↦ entry-far m wish kept l below fits toward w.if-cell.true
-    | fulfil-then-cell-via-else-cell+then-places-v w ↦
-        entry_absent m wish kept l below fits toward c.wide-v.ensures.0 w.if-places-v.true-raw
+      | fulfil-then-cell-via-then-cell w ↦ entry-far m wish kept l below fits toward w.if-cell.true
+      | fulfil-then-cell-via-else-cell+then-places-v w ↦
+          entry_absent m wish kept l below fits toward c.wide-v.ensures.0 w.if-places-v.true-raw
     ]
 
 pub fulfil-move_body-b-requires : goal.fulfil-move_body-b-requires
@@ -68,10 +65,10 @@ fulfil-returns-then-not-from_now t c m wish kept l below fits =
     let stops = c.held_up-held.ensures in
     let judged = c.from_now.ensures in
     elim c.then-not-from_now.branch [
-      fulfil-then-not-from_now-via-then-not-from_now w ↦
-        entry-elsewhere m wish kept l below fits q stops judged w.if-not-from_now.true-raw
-    | fulfil-then-not-from_now-via-else-not-from_now+then-has w ↦
-        entry-held m wish kept l below fits q stops judged w.wide.ensures.0 w.has.ensures w.if-has.true
+      | fulfil-then-not-from_now-via-then-not-from_now w ↦
+          entry-elsewhere m wish kept l below fits q stops judged w.if-not-from_now.true-raw
+      | fulfil-then-not-from_now-via-else-not-from_now+then-has w ↦
+          entry-held m wish kept l below fits q stops judged w.wide.ensures.0 w.has.ensures w.if-has.true
     ]
 
 pub fulfil-usable-requires : goal.fulfil-usable-requires

@@ -1,4 +1,3 @@
-use Prim.Native.Nat.{◌-◌}
 use Rattle.command.proofs.Gathering.{gathered_none, gathered_next, gathered-end}
 use Rattle.command.proofs.query.gathered.Goals as goal
 

@@ -1,4 +1,3 @@
-use Prim.Native.Nat.{◌-◌}
 use native.Mathlib.Omega.{arith}
 use Rattle.command.proofs.EachMachine.{weighed-few, weighed-bytes, mode-inside, next_fits}
 use Rattle.command.proofs.PresentLoop.{number-place, present-none, mode-byte, sum-byte}

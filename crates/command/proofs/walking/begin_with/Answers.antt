@@ -16,9 +16,9 @@ bound-requires c = search lent-near
 pub returns-in_default : goal.returns-in_default
 returns-in_default c = let r = let p = c.plan-planned.ensures in
     start-ready _ _ c.args.scratch.now _ _ c.smaller-n.ensures p.reply
-    c.in_default.is p.buffer p.left c.bound.ensures in record { reply = r.0; written = r.1.0; left = r.1.1; }
+    c.in_default.is p.buffer p.left c.bound.ensures in record { reply = r.0; written = r.1.0; left = r.1.1 }
 
 pub returns : goal.returns
 returns c = let r = let p = c.plan-planned.ensures in
     start-refused _ _ c.args.scratch.now _ _ c.smaller-n.ensures p.reply
-    c.in-Refused.is p.buffer p.left in record { reply = r.0; written = r.1.0; left = r.1.1; }
+    c.in-Refused.is p.buffer p.left in record { reply = r.0; written = r.1.0; left = r.1.1 }

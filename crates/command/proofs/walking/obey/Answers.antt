@@ -10,8 +10,8 @@ returns-in_default-change c =
 
 pub returns-in_default : goal.returns-in_default
 returns-in_default c = let r = let apply = c.apply-change in
-    obeyed-by _ _ _ _ apply.result _ apply.ensures.reply c.in-Changed.is apply.ensures.left in record { reply = r.0; left = r.1; }
+    obeyed-by _ _ _ _ apply.result _ apply.ensures.reply c.in-Changed.is apply.ensures.left in record { reply = r.0; left = r.1 }
 
 pub returns : goal.returns
 returns c = let r = let apply = c.apply-change in
-    obeyed-by _ _ _ _ apply.result _ apply.ensures.reply c.in-TurnedDown.is apply.ensures.left in record { reply = r.0; left = r.1; }
+    obeyed-by _ _ _ _ apply.result _ apply.ensures.reply c.in-TurnedDown.is apply.ensures.left in record { reply = r.0; left = r.1 }

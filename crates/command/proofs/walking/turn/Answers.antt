@@ -14,9 +14,9 @@ returns-in_default-advice c =
 pub returns-in_default : goal.returns-in_default
 unfolding and_then
 returns-in_default c = let r = let next = c.next-advice in
-    turned_by _ _ _ _ next.result _ next.ensures c.in-Send.is (c.obey.ensures.reply, c.obey.ensures.left) in record { reply = r.0; left = r.1; }
+    turned_by _ _ _ _ next.result _ next.ensures c.in-Send.is (c.obey.ensures.reply, c.obey.ensures.left) in record { reply = r.0; left = r.1 }
 
 pub returns : goal.returns
 unfolding and_then
 returns c = let r = let next = c.next-advice in
-    turned_by _ _ _ _ next.result _ next.ensures c.in-Refused.is (refl, refl) in record { reply = r.0; left = r.1; }
+    turned_by _ _ _ _ next.result _ next.ensures c.in-Refused.is (refl, refl) in record { reply = r.0; left = r.1 }

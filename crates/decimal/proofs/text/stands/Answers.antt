@@ -1,4 +1,3 @@
-use Prim.Native.Nat.{◌-◌}
 use native.Mathlib.Omega.{arith}
 use Rattle.decimal.proofs.Standing.{stand-none, stand-short, stand-next, stand-end}
 use Rattle.decimal.proofs.text.stands.Goals as goal

@@ -1,4 +1,3 @@
-use Prim.Native.Nat.{◌-◌}
 use Rattle.joining.proofs.WithoutLoop.{left-none, left-next, without-found, without-missing}
 use Rattle.joining.proofs.joining.first_without.Goals as goal
 

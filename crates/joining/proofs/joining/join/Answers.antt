@@ -13,10 +13,10 @@ indexed c = accepted-indexed _ _ c.read-reading.ensures.reply c.in_default.is
 
 pub join_goals-requires : goal.join_goals-requires
 join_goals-requires c = let i = indexed (goal.at.join_goals-requires c).In_default in (
-      (i.0, indexes-modes i.1, indexes-machines i.1),
-      few-machines i,
-      indexes-array i.1,
-    )
+  (i.0, indexes-modes i.1, indexes-machines i.1),
+  few-machines i,
+  indexes-array i.1,
+)
 
 pub returns-in_default : goal.returns-in_default
 returns-in_default c = let i = indexed (goal.at.returns-in_default c).In_default in
@@ -27,6 +27,6 @@ returns-in_default c = let i = indexed (goal.at.returns-in_default c).In_default
 
 pub returns : goal.returns
 returns c = let e = refused-parse _ _ c.read-reading.ensures.reply c.in-Refused.is in record {
-      reply = rw (join-unread _ _ _ e) refl;
-      written = rw (join-unread _ _ _ e) refl;
-    }
+  reply = rw (join-unread _ _ _ e) refl;
+  written = rw (join-unread _ _ _ e) refl;
+}

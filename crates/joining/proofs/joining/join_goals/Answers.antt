@@ -15,15 +15,15 @@ use Rattle.joining.proofs.joining.join_goals.Goals.{After-check_each-verdict}
 held : (c : After-check_each-verdict) → (each : Goals) × Splits c.args.goals.now each
 held c = whole-holds _ c.whole.ensures (not-false _ c.if-not-whole.false-raw)
 
-said : (c : After-check_each-verdict)  (m : Model) → CountsOf m c.args.modes.now
+said : (c : After-check_each-verdict) (m : Model) → CountsOf m c.args.modes.now
     → c.args.n ≡ machine_count m → verdict_says c.check_each-verdict.result ≡ each_reply m (held c).0
 said c m q e = c.check_each-verdict.ensures m (held c).0 q e (held c).1
 
 pub returns-then-not-whole : goal.returns-then-not-whole
 returns-then-not-whole c = record {
-      reply = λ m q e. ap length_of (cut-refused _ c.whole.ensures m _ (c.if-not-whole.true));
-      written = λ m q e. refusal-leaves _ (cut-refused _ c.whole.ensures m _ (c.if-not-whole.true));
-    }
+  reply = λ m q e. ap length_of (cut-refused _ c.whole.ensures m _ (c.if-not-whole.true));
+  written = λ m q e. refusal-leaves _ (cut-refused _ c.whole.ensures m _ (c.if-not-whole.true));
+}
 
 pub check_each-verdict-requires : goal.check_each-verdict-requires
 check_each-verdict-requires c = let pre = c.requires in

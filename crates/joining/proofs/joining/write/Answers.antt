@@ -9,7 +9,7 @@ use Rattle.joining.proofs.joining.write.Goals as goal
 use Rattle.joining.proofs.joining.write.Goals.{After-shared-masks}
 
 -- the masks, of the goals that the slice holds
-of : (c : After-shared-masks)  (each : Goals) → SplitsShort c.args.goals.now each
+of : (c : After-shared-masks) (each : Goals) → SplitsShort c.args.goals.now each
     → MasksOf each c.shared-masks.result c.longest-n.result
 of c = masks-of _ (omega (arith, c.shared-masks.type_inv)) c.longest-n.ensures c.shared-masks.ensures
 
@@ -22,8 +22,8 @@ first_without-without-requires c = masks-within (held (goal.at.first_without-wit
 pub returns-then-without-n : goal.returns-then-without-n
 returns-then-without-n c =
     let none = λ (each : Goals) (h : SplitsShort c.args.goals.now each).
-        without-refused (of (goal.at.returns-then-without-n c).After-shared-masks each h) _ c.first_without-without.ensures
-        c.if-without-n.true in
+    without-refused (of (goal.at.returns-then-without-n c).After-shared-masks each h) _ c.first_without-without.ensures
+    c.if-without-n.true in
     record {
       reply = λ each h. ap length_of (none each h);
       written = λ each h. refusal-leaves _ (none each h);
@@ -32,8 +32,8 @@ returns-then-without-n c =
 pub returns-then-out-n : goal.returns-then-out-n
 returns-then-out-n c =
     let no_room = λ (each : Goals) (h : SplitsShort c.args.goals.now each).
-        room-refused (of (goal.at.returns-then-out-n c).After-shared-masks each h) _ c.first_without-without.ensures
-        c.if-without-n.false c.if-out-n.true in
+    room-refused (of (goal.at.returns-then-out-n c).After-shared-masks each h) _ c.first_without-without.ensures
+    c.if-without-n.false c.if-out-n.true in
     record {
       reply = λ each h. ap length_of (no_room each h);
       written = λ each h. refusal-leaves _ (no_room each h);

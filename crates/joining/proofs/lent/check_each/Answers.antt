@@ -1,4 +1,3 @@
-use Prim.Native.Nat.{◌-◌}
 use Rattle.joining.proofs.Splitting.{read_whole}
 use Rattle.joining.proofs.LentLoops.{passed_none, passed-next, passed-refused, passed-end}
 use Rattle.joining.proofs.lent.check_each.Goals as goal

@@ -1,4 +1,3 @@
-use Prim.Native.Nat.{◌-◌}
 use Rattle.joining.proofs.LentLoops.{longest-none, longest-longer, longest-as-long, longest-end}
 use Rattle.joining.proofs.lent.longest.Goals as goal
 use Rattle.joining.proofs.lent.longest.Goals.{then-r-n, else-r-n}
@@ -9,8 +8,8 @@ loop-at-init c = search longest-none
 pub loop-at-preserved : goal.loop-at-preserved
 loop-at-preserved c =
     elim c.if-r-n.branch [
-      then-r-n w ↦ rw w.r-is (search (longest-longer, w.if-r-n.true))
-    | else-r-n w ↦ rw w.r-is (search (longest-as-long, w.if-r-n.false))
+      | then-r-n w ↦ rw w.r-is (search (longest-longer, w.if-r-n.true))
+      | else-r-n w ↦ rw w.r-is (search (longest-as-long, w.if-r-n.false))
     ]
 
 pub returns : goal.returns

@@ -1,4 +1,3 @@
-use Prim.Native.Nat.{◌-◌}
 use Rattle.sets.specs.Kept.Sets.{both}
 use Rattle.joining.proofs.NarrowLoop.{narrowed-upto-none, narrowed-upto-next, narrowed-upto-end}
 use Rattle.joining.proofs.lent.narrow.Goals as goal

@@ -1,4 +1,3 @@
-use Prim.Native.Nat.{◌-◌}
 use Rattle.joining.proofs.Splitting.{read_whole}
 use Rattle.joining.proofs.SharedLoop.{shared-none, shared-short, shared-next, shared-end}
 use Rattle.joining.proofs.lent.shared.Goals as goal

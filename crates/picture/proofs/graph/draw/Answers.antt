@@ -21,6 +21,6 @@ returns-in_default c = let i = indexed (goal.at.returns-in_default c).In_default
 
 pub returns : goal.returns
 returns c = let e = refused-parse _ _ c.read-reading.ensures.reply c.in-Refused.is in record {
-      reply = rw (undrawn-reply _ _ e) refl;
-      written = rw (undrawn-reply _ _ e) refl;
-    }
+  reply = rw (undrawn-reply _ _ e) refl;
+  written = rw (undrawn-reply _ _ e) refl;
+}

@@ -7,7 +7,7 @@ use borrow.Author.Rules.{rules}
 use Rattle.picture.proofs.graph.read.Goals as goal
 
 pub returns-then-n-eq0 : goal.returns-then-n-eq0
-returns-then-n-eq0 c = let r = not-read _ _ (other_text _ (c.matched-found.ensures.other c.if-n-eq0.true)) in record { reply = r.0; written = r.1; }
+returns-then-n-eq0 c = let r = not-read _ _ (other_text _ (c.matched-found.ensures.other c.if-n-eq0.true)) in record { reply = r.0; written = r.1 }
 
 pub slice_bounds-numbers-end : goal.slice_bounds-numbers-end
 slice_bounds-numbers-end c = let r = c.matched-found in

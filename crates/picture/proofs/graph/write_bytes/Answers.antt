@@ -8,7 +8,7 @@ use Rattle.picture.proofs.Fitting.{bytes-length, bytes-put}
 use Rattle.picture.proofs.graph.write_bytes.Goals as goal
 
 pub returns-then-out-length : goal.returns-then-out-length
-returns-then-out-length c = let counted = c.all_pairs_length.ensures.length in let r = not-fitted _ _ (omega (arith, c.if-out-length.true, counted, bytes-length c.requires)) in record { reply = r.0; written = r.1; }
+returns-then-out-length c = let counted = c.all_pairs_length.ensures.length in let r = not-fitted _ _ (omega (arith, c.if-out-length.true, counted, bytes-length c.requires)) in record { reply = r.0; written = r.1 }
 
 pub put-at-requires : goal.put-at-requires
 put-at-requires c = rw length-set (omega (arith, c.if-out-length.false))
@@ -28,4 +28,4 @@ returns c = let fits = c.if-out-length.false in
     let counted = c.all_pairs_length.ensures.length in
     let long = bytes-length c.requires in let r = fitted-written _ _ (omega (arith, counted, long)) (omega (arith, fits, counted, long))
     (bytes-put c.requires _ (put_byte c.args.out.now _ _ (omega (arith, fits))) (c.put-at.ensures.end, c.put-at.ensures.written)
-    (c.put_all_pairs.ensures.end, c.put_all_pairs.ensures.written)) in record { reply = r.0; written = r.1; }
+    (c.put_all_pairs.ensures.end, c.put_all_pairs.ensures.written)) in record { reply = r.0; written = r.1 }

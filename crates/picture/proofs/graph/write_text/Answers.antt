@@ -22,6 +22,6 @@ write_rows-requires c = let sets = c.members-machines.result in
 
 pub returns : goal.returns
 returns c = let long : length c.members-machines.result ≡ 32 = search rules in record {
-      reply = rw (text-rows c.requires c.members-machines.ensures long) c.write_rows.ensures.reply;
-      written = rw (text-rows c.requires c.members-machines.ensures long) c.write_rows.ensures.written;
-    }
+  reply = rw (text-rows c.requires c.members-machines.ensures long) c.write_rows.ensures.reply;
+  written = rw (text-rows c.requires c.members-machines.ensures long) c.write_rows.ensures.written;
+}

@@ -4,6 +4,6 @@ use Rattle.picture.proofs.lengths.digits.Goals as goal
 
 pub returns : goal.returns
 returns c = record {
-      digits = search digits-counted;
-      short = search rules;
-    }
+  digits = search digits-counted;
+  short = search rules;
+}

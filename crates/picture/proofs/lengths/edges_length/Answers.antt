@@ -11,6 +11,6 @@ overflow_add-result c = let lines = lines-short c.width-line.ensures.short c.siz
 
 pub returns : goal.returns
 returns c = let lines = lines-short c.width-line.ensures.short c.size.ensures.short in record {
-      length = edges-add _ c.size.ensures.size c.digits.ensures.digits _ c.width-line.ensures.length;
-      short = omega (arith, lines, c.digits.ensures.short);
-    }
+  length = edges-add _ c.size.ensures.size c.digits.ensures.digits _ c.width-line.ensures.length;
+  short = omega (arith, lines, c.digits.ensures.short);
+}

@@ -4,6 +4,6 @@ use Rattle.picture.proofs.lengths.node_length.Goals as goal
 
 pub returns : goal.returns
 returns c = let size = c.size.ensures.size in record {
-      length = node-adds _ size c.digits.ensures.digits _ c.width.ensures.length;
-      short = search rules;
-    }
+  length = node-adds _ size c.digits.ensures.digits _ c.width.ensures.length;
+  short = search rules;
+}

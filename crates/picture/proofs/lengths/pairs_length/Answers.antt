@@ -4,6 +4,6 @@ use Rattle.picture.proofs.lengths.pairs_length.Goals as goal
 
 pub returns : goal.returns
 returns c = record {
-      length = pairs-add _ c.size.ensures.size;
-      short = search rules;
-    }
+  length = pairs-add _ c.size.ensures.size;
+  short = search rules;
+}

@@ -9,6 +9,6 @@ overflow_cast-result c = let h : ones c.args.set ≤ 64 = search size_small in o
 
 pub returns : goal.returns
 returns c = record {
-      size = search size_is;
-      short = search size_small;
-    }
+  size = search size_is;
+  short = search size_small;
+}

@@ -18,4 +18,4 @@ pub shape_of-out : goal.shape_of-out
 shape_of-out c = c.loop-rest.invariant.size
 
 pub returns : goal.returns
-returns c = let r = labels-end _ _ _ _ c.loop-rest.invariant c.loop-rest-test.false in record { end = r.0; written = r.1; }
+returns c = let r = labels-end _ _ _ _ c.loop-rest.invariant c.loop-rest-test.false in record { end = r.0; written = r.1 }

@@ -10,4 +10,4 @@ put_number-requires c = omega (arith, c.put-end.ensures.end, c.put-end.auto.out,
 
 pub returns : goal.returns
 returns c = let r = name-put c.args.out.now _ (omega (arith, c.requires)) _ (c.put-end.ensures.end, c.put-end.ensures.written)
-    (c.put_number.ensures.end, c.put_number.ensures.written) in record { end = r.0; written = r.1; }
+    (c.put_number.ensures.end, c.put_number.ensures.written) in record { end = r.0; written = r.1 }

@@ -13,4 +13,4 @@ shape_of-out c = c.put.auto.out ∙ length-set c.args.out.now _ _
 
 pub returns : goal.returns
 returns c = let r = number_put c.args.out.now _ (omega (arith, c.requires)) _ _
-    (put_byte c.args.out.now _ _ (omega (arith, c.requires))) (c.put.ensures.end, c.put.ensures.written) in record { end = r.0; written = r.1; }
+    (put_byte c.args.out.now _ _ (omega (arith, c.requires))) (c.put.ensures.end, c.put.ensures.written) in record { end = r.0; written = r.1 }

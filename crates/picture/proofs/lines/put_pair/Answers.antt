@@ -9,6 +9,6 @@ bounds-out-at-2 c = rw length-set (omega (arith, c.requires.0))
 
 pub returns : goal.returns
 returns c = record {
-      end = refl;
-      written = pair-written c.args.out.now _ _ _ c.requires.0;
-    }
+  end = refl;
+  written = pair-written c.args.out.now _ _ _ c.requires.0;
+}

@@ -7,7 +7,7 @@ stands-requires-then-stands c = (
   name-start-room c.args.text.now c.args.at c.args.k c.requires.0
       (sym c.stands.ensures ∙ c.if-stands.true),
   c.requires.1,
-    )
+)
 
 pub returns-then-stands : goal.returns-then-stands
 returns-then-stands c = name-here c.args.text.now c.args.at c.args.k

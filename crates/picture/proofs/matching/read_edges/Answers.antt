@@ -1,4 +1,3 @@
-use Prim.Native.Nat.{◌-◌}
 use borrow.Author.Rules.{rules}
 use Rattle.picture.proofs.EdgeTable.{edges_none, edges-end, edges-stop, edges-next}
 use Rattle.picture.proofs.matching.read_edges.Goals as goal

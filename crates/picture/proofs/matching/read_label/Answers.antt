@@ -1,4 +1,3 @@
-use Prim.Native.Nat.{◌-◌}
 use borrow.Author.Rules.{rules}
 use Rattle.picture.proofs.LabelLoop.{label-none, label-room, label-onward, label-stops, label_small}
 use Rattle.picture.proofs.LabelLoop.{label-less, label-next, label-other, label-behind, label-ends}

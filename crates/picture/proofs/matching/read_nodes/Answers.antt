@@ -1,4 +1,3 @@
-use Prim.Native.Nat.{◌-◌}
 use mathlib.Core.Path.{refl}
 use borrow.Author.Rules.{rules}
 use Rattle.picture.proofs.NodeLoop.{nodes-none, nodes-end, node-named, node-byte, node-less}

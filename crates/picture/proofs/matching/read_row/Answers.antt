@@ -1,4 +1,3 @@
-use Prim.Native.Nat.{◌-◌}
 use borrow.Author.Rules.{rules}
 use Rattle.picture.proofs.EdgeLoop.{row-start, row_ends, row_inside, head-room, row-stops, row_other}
 use Rattle.picture.proofs.EdgeLoop.{row_small, row_within, row_room, row-less, row_next}

@@ -1,6 +1,4 @@
-use Prim.Native.Nat.{◌-◌}
 use native.Mathlib.Omega.{arith}
-use lib.ListN.{length}
 use Rattle.picture.proofs.RowLoops.{rows-counted-none, rows-counted-next, rows-counted}
 use Rattle.picture.proofs.rows.all_edges_length.Goals as goal
 
@@ -16,4 +14,4 @@ loop-a-preserved c = let len = c.edges_length-r.ensures in
     rows-counted-next _ _ c.loop-a.invariant c.loop-a-test.true len.length len.short
 
 pub returns : goal.returns
-returns c = let r = rows-counted _ _ c.requires c.loop-a.invariant c.loop-a-test.false in record { short = r.0; length = r.1; }
+returns c = let r = rows-counted _ _ c.requires c.loop-a.invariant c.loop-a-test.false in record { short = r.0; length = r.1 }

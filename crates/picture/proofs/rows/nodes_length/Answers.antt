@@ -1,6 +1,4 @@
-use Prim.Native.Nat.{◌-◌}
 use native.Mathlib.Omega.{arith}
-use lib.ListN.{length}
 use Rattle.picture.proofs.RowLoops.{rows-counted-none, rows-counted-next, rows-counted}
 use Rattle.picture.proofs.rows.nodes_length.Goals as goal
 
@@ -16,4 +14,4 @@ loop-k-preserved c = let len = c.node_length-r.ensures in
     rows-counted-next _ _ c.loop-k.invariant c.loop-k-test.true len.length len.short
 
 pub returns : goal.returns
-returns c = let r = rows-counted _ _ c.requires c.loop-k.invariant c.loop-k-test.false in record { short = r.0; length = r.1; }
+returns c = let r = rows-counted _ _ c.requires c.loop-k.invariant c.loop-k-test.false in record { short = r.0; length = r.1 }

@@ -1,4 +1,3 @@
-use Prim.Native.Nat.{◌-◌}
 use Rattle.picture.proofs.RowLoops.{rows_start, rows_more, rows-room, rows_end}
 use Rattle.picture.proofs.rows.put_nodes.Goals as goal
 
@@ -17,4 +16,4 @@ pub shape_of-out : goal.shape_of-out
 shape_of-out c = c.loop-k.invariant.pieces.size
 
 pub returns : goal.returns
-returns c = let r = rows_end _ _ _ _ c.loop-k.invariant c.loop-k-test.false in record { end = r.0; written = r.1; }
+returns c = let r = rows_end _ _ _ _ c.loop-k.invariant c.loop-k-test.false in record { end = r.0; written = r.1 }

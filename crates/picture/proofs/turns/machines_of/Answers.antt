@@ -27,7 +27,7 @@ loop-rest-preserved c = (
   search (gathers-next, taken-rest),
   λ g t. c.loop-rest.invariant.1 g
       (less-from _ _ g (ap (λ s. bit s g) (sym c.rest-rest.ensures) ∙ t)),
-    )
+)
 
 pub returns : goal.returns
 returns c = gathers-end _ c.loop-rest.invariant.0 c.loop-rest-test.false

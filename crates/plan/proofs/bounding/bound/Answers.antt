@@ -1,4 +1,3 @@
-use Prim.Native.Nat.{◌-◌}
 use native.Mathlib.Omega.{arith}
 use Rattle.plan.specs.Kept.CostSets.{capped_cost}
 use Rattle.plan.proofs.CostLoops.{cost-fits, costed-none, costed-small, costed-next, costed-end}

@@ -1,4 +1,3 @@
-use Prim.Native.Nat.{◌-◌}
 use Rattle.plan.specs.Needs.{names}
 use Rattle.sheet.proofs.NeedLoop.{needs-end}
 use Rattle.plan.proofs.PutLoop.{put-none, put_next}

@@ -1,4 +1,3 @@
-use Prim.Native.Nat.{◌-◌}
 use mathlib.Core.Path.{refl, ◌∙◌}
 use Rattle.plan.proofs.Marking.{marks-none, marks-next, marks-stop, marks-end}
 use borrow.Author.Rules.{rules}

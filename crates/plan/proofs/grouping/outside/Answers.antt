@@ -1,4 +1,3 @@
-use Prim.Native.Nat.{◌-◌}
 use mathlib.Core.Path.{sym, ◌∙◌}
 use Rattle.common.proofs.Filling.{filled_none, filled_next, filled-end}
 use Rattle.plan.proofs.SetLoops.{outside-less}

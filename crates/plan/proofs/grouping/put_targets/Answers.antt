@@ -1,10 +1,9 @@
-use Prim.Native.Nat.{◌-◌, ◌<◌}
+use Prim.Native.Nat.{◌<◌}
 use mathlib.Core.Path.{◌≡◌, sym, ap, ◌∙◌}
 use lib.ListN.{length, get_or}
 use native.Mathlib.Omega.{arith}
 use Rattle.plan.proofs.TargetLoops.{targets-none, target_fits, targets-below, targets_next}
 use Rattle.plan.proofs.TargetLoops.{targets-end}
-use borrow.Author.Rules.{rules}
 use Rattle.plan.proofs.grouping.put_targets.Goals as goal
 use Rattle.plan.proofs.grouping.put_targets.Goals.{After-wide-k}
 

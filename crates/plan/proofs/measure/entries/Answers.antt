@@ -1,4 +1,3 @@
-use Prim.Native.Nat.{◌-◌}
 use native.Mathlib.Omega.{arith}
 use Rattle.plan.proofs.GroupLoops.{byte-product, summed-none, summed-next, summed-end}
 use Rattle.plan.proofs.measure.entries.Goals as goal

@@ -1,4 +1,3 @@
-use Prim.Native.Nat.{◌-◌}
 use borrow.Author.Count.{below_none, below_more}
 use Rattle.plan.proofs.GroupLoops.{large-found, large-missing}
 use borrow.Author.Rules.{rules}

@@ -1,4 +1,3 @@
-use Prim.Native.Nat.{◌-◌}
 use mathlib.Core.Path.{refl}
 use Rattle.plan.proofs.TableStarts.{starts_none, starts-next, starts-end}
 use Rattle.plan.proofs.reading.starts.Goals as goal

@@ -1,7 +1,5 @@
-use Prim.Native.Nat.{◌-◌}
 use mathlib.Core.Path.{sym, ◌∙◌}
 use native.Mathlib.Omega.{arith}
-use borrow.Author.Tests.{not-true, not-false}
 use Rattle.common.proofs.Tested.{passed_none, passed-next, passed-all, one-fails}
 use Rattle.plan.specs.Kept.Outline.{tables_fit}
 use Rattle.plan.proofs.reading.tables_fit.Goals as goal

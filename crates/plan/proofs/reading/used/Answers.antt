@@ -1,4 +1,3 @@
-use Prim.Native.Nat.{◌-◌}
 use native.Mathlib.Omega.{arith}
 use Rattle.plan.proofs.NumbersUsed.{used-none, used-next, used-end}
 use Rattle.plan.proofs.reading.used.Goals as goal

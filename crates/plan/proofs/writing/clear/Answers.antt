@@ -1,4 +1,3 @@
-use Prim.Native.Nat.{◌-◌}
 use Rattle.plan.proofs.WritingLoops.{cleared-none, cleared-next, cleared-end}
 use Rattle.plan.proofs.writing.clear.Goals as goal
 

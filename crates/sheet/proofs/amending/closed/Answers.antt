@@ -1,4 +1,3 @@
-use Prim.Native.Nat.{◌-◌}
 use native.Mathlib.Omega.{arith}
 use borrow.Author.Rules.{rules}
 use Rattle.sheet.proofs.Closing.{closing-nothing, closing-few, closing-kept, closing-passed}
@@ -24,8 +23,8 @@ loop-v-preserved c =
     let few = closing-few h in (
       search rules,
       elim c.if-places-v-ne0.branch [
-        then-places-v-ne0 w ↦ rw (w.packed-is, w.n-is) (closing-kept h (omega arith) w.if-places-v-ne0.true (omega arith))
-      | else-places-v-ne0 w ↦ rw (w.packed-is, w.n-is) (closing-passed h (omega arith) w.if-places-v-ne0.false)
+        | then-places-v-ne0 w ↦ rw (w.packed-is, w.n-is) (closing-kept h (omega arith) w.if-places-v-ne0.true (omega arith))
+        | else-places-v-ne0 w ↦ rw (w.packed-is, w.n-is) (closing-passed h (omega arith) w.if-places-v-ne0.false)
       ],
     )
 

@@ -1,4 +1,3 @@
-use Prim.Native.Nat.{◌-◌}
 use mathlib.Core.Path.{refl, sym}
 use native.Mathlib.Omega.{arith}
 use borrow.Author.Rules.{rules}
@@ -10,7 +9,7 @@ use Rattle.sheet.proofs.Tail.{tail-unnamed, tail-inside, tail-too-many, tail-les
 use Rattle.sheet.proofs.amending.read_tail.Goals as goal
 
 pub returns-in_default : goal.returns-in_default
-returns-in_default c = let r = reading-refused _ c.refused.result c.refused.ensures (search tail-cut) in record { reply = r.0; index = r.1; }
+returns-in_default c = let r = reading-refused _ c.refused.result c.refused.ensures (search tail-cut) in record { reply = r.0; index = r.1 }
 
 pub slice_bounds-body-end : goal.slice_bounds-body-end
 slice_bounds-body-end c = search whole-within
@@ -22,19 +21,19 @@ pub slice_bounds-judge-end : goal.slice_bounds-judge-end
 slice_bounds-judge-end c = search lives-long
 
 pub returns-in-Faulty : goal.returns-in-Faulty
-returns-in-Faulty c = let r = reading-refused _ c.refused-in-Faulty.result c.refused-in-Faulty.ensures (search tail-faulty) in record { reply = r.0; index = r.1; }
+returns-in-Faulty c = let r = reading-refused _ c.refused-in-Faulty.result c.refused-in-Faulty.ensures (search tail-faulty) in record { reply = r.0; index = r.1 }
 
 pub repeated-requires : goal.repeated-requires
 repeated-requires c = (search rules, search tail-move-bytes)
 
 pub returns-then-repeated : goal.returns-then-repeated
-returns-then-repeated c = let r = reading-refused _ c.refused-then-repeated.result c.refused-then-repeated.ensures (search tail-repeated) in record { reply = r.0; index = r.1; }
+returns-then-repeated c = let r = reading-refused _ c.refused-then-repeated.result c.refused-then-repeated.ensures (search tail-repeated) in record { reply = r.0; index = r.1 }
 
 pub returns-in-2 : goal.returns-in-2
-returns-in-2 c = let r = reading-refused _ c.refused-in-2.result c.refused-in-2.ensures (search tail-late) in record { reply = r.0; index = r.1; }
+returns-in-2 c = let r = reading-refused _ c.refused-in-2.result c.refused-in-2.ensures (search tail-late) in record { reply = r.0; index = r.1 }
 
 pub returns-then-end-s : goal.returns-then-end-s
-returns-then-end-s c = let r = reading-refused _ c.refused-then-end-s.result c.refused-then-end-s.ensures (search tail-trailing) in record { reply = r.0; index = r.1; }
+returns-then-end-s c = let r = reading-refused _ c.refused-then-end-s.result c.refused-then-end-s.ensures (search tail-trailing) in record { reply = r.0; index = r.1 }
 
 pub slice_bounds-closed-end : goal.slice_bounds-closed-end
 slice_bounds-closed-end c = search sym
@@ -65,13 +64,13 @@ pub returns-in_default-standing : goal.returns-in_default-standing
 returns-in_default-standing c = let r = reading-refused _ c.refused-in_default-standing.result c.refused-in_default-standing.ensures
     (tail-unnamed c.loop-kind.invariant c.record_at.ensures c.in-Whole.is _
     c.judge-j.ensures c.in_default-j.is c.in_default-kind.in_default-kind-own.rest.0.1 c.in_default-kind.in_default-kind-own.rest.1
-    c.named-a.ensures c.standing.ensures c.in_default-standing.is) in record { reply = r.0; index = r.1; }
+    c.named-a.ensures c.standing.ensures c.in_default-standing.is) in record { reply = r.0; index = r.1 }
 
 pub returns-then-amended-ge-MOST : goal.returns-then-amended-ge-MOST
 returns-then-amended-ge-MOST c = let r = reading-refused _ c.refused-then-amended-ge-MOST.result c.refused-then-amended-ge-MOST.ensures
     (tail-too-many c.loop-kind.invariant c.record_at.ensures c.in-Whole.is _
     c.judge-j.ensures c.in_default-j.is c.in_default-kind.in_default-kind-own.rest.0.1 c.in_default-kind.in_default-kind-own.rest.1
-    c.named-a.ensures c.standing.ensures c.in-Number.is c.if-amended-ge-MOST.true) in record { reply = r.0; index = r.1; }
+    c.named-a.ensures c.standing.ensures c.in-Number.is c.if-amended-ge-MOST.true) in record { reply = r.0; index = r.1 }
 
 pub overflow_cast-at : goal.overflow_cast-at
 overflow_cast-at c = search tail-place-fits

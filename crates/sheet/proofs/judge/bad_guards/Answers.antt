@@ -1,4 +1,3 @@
-use Prim.Native.Nat.{◌-◌}
 use mathlib.Core.Path.{refl}
 use borrow.Author.Rules.{rules}
 use Rattle.sheet.proofs.BadGuards.{guards_none, guards_more, guards-some, guards-all}
@@ -15,9 +14,7 @@ loop-n-preserved c = (
   search rules,
   guards_more _ _ _ c.loop-n.invariant.1 c.bad_guard.ensures
       c.if-bad_guard.false,
-
 )
-
 
 pub returns : goal.returns
 returns c = guards-all _ _ c.loop-n.invariant.1 c.loop-n.invariant.0 c.loop-n-test.false refl

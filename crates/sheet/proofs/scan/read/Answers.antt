@@ -1,4 +1,3 @@
-use Prim.Native.Nat.{◌-◌}
 use mathlib.Core.Path.{sym}
 use native.Mathlib.Omega.{arith}
 use borrow.Author.Rules.{rules}
@@ -14,7 +13,7 @@ pub loop-kind-init : goal.loop-kind-init
 loop-kind-init c = search scan-start
 
 pub returns-in_default : goal.returns-in_default
-returns-in_default c = let r = reading-refused _ c.refused.result c.refused.ensures (search scan-cut) in record { reply = r.0; index = r.1; }
+returns-in_default c = let r = reading-refused _ c.refused.result c.refused.ensures (search scan-cut) in record { reply = r.0; index = r.1 }
 
 pub slice_bounds-body-end : goal.slice_bounds-body-end
 slice_bounds-body-end c = search whole-within
@@ -23,7 +22,7 @@ pub overflow_add-end : goal.overflow_add-end
 overflow_add-end c = omega (arith, slice_bounds-body-end c)
 
 pub returns-in-Faulty : goal.returns-in-Faulty
-returns-in-Faulty c = let r = reading-refused _ c.refused-in-Faulty.result c.refused-in-Faulty.ensures (search machine-faulty) in record { reply = r.0; index = r.1; }
+returns-in-Faulty c = let r = reading-refused _ c.refused-in-Faulty.result c.refused-in-Faulty.ensures (search machine-faulty) in record { reply = r.0; index = r.1 }
 
 pub bounds-body-0 : goal.bounds-body-0
 bounds-body-0 c = search machine-first
@@ -62,7 +61,7 @@ pub slice_bounds-judge_move-end-in-2 : goal.slice_bounds-judge_move-end-in-2
 slice_bounds-judge_move-end-in-2 c = search lives-long
 
 pub returns-in-Faulty-j : goal.returns-in-Faulty-j
-returns-in-Faulty-j c = let r = reading-refused _ c.refused-in-Faulty-j.result c.refused-in-Faulty-j.ensures (search move-faulty) in record { reply = r.0; index = r.1; }
+returns-in-Faulty-j c = let r = reading-refused _ c.refused-in-Faulty-j.result c.refused-in-Faulty-j.ensures (search move-faulty) in record { reply = r.0; index = r.1 }
 
 pub slice_bounds-added-end : goal.slice_bounds-added-end
 slice_bounds-added-end c = search sym
@@ -80,7 +79,7 @@ pub returns-then-not-added : goal.returns-then-not-added
 returns-then-not-added c = let r = reading-refused _ c.refused-then-not-added.result c.refused-then-not-added.ensures
     (scan-repeated c.loop-kind.invariant c.record_at.ensures c.in-Whole.is
     c.in-2.is _ c.judge_move-j.ensures c.in_default-j-2.is c.added.ensures
-    c.if-not-added.true-raw) in record { reply = r.0; index = r.1; }
+    c.if-not-added.true-raw) in record { reply = r.0; index = r.1 }
 
 pub overflow_cast-sheet : goal.overflow_cast-sheet
 overflow_cast-sheet c = search place-fits
@@ -101,16 +100,16 @@ pub loop-kind-preserved : goal.loop-kind-preserved
 loop-kind-preserved c = search scan-move
 
 pub returns-in-Faulty-j-2 : goal.returns-in-Faulty-j-2
-returns-in-Faulty-j-2 c = let r = reading-refused _ c.refused-in-Faulty-j-2.result c.refused-in-Faulty-j-2.ensures (search end-faulty) in record { reply = r.0; index = r.1; }
+returns-in-Faulty-j-2 c = let r = reading-refused _ c.refused-in-Faulty-j-2.result c.refused-in-Faulty-j-2.ensures (search end-faulty) in record { reply = r.0; index = r.1 }
 
 pub returns-then-end-s : goal.returns-then-end-s
-returns-then-end-s c = let r = reading-refused _ c.refused-then-end-s.result c.refused-then-end-s.ensures (search scan_trailing) in record { reply = r.0; index = r.1; }
+returns-then-end-s c = let r = reading-refused _ c.refused-then-end-s.result c.refused-then-end-s.ensures (search scan_trailing) in record { reply = r.0; index = r.1 }
 
 pub returns-in-3 : goal.returns-in-3
 returns-in-3 c = record {
-      reply = search scan-given;
-      index = search scan-index;
-    }
+  reply = search scan-given;
+  index = search scan-index;
+}
 
 pub slice_bounds-read_tail-end : goal.slice_bounds-read_tail-end
 slice_bounds-read_tail-end c = search tops-long

@@ -1,4 +1,3 @@
-use Prim.Native.Nat.{◌-◌}
 use Rattle.sheet.proofs.WritingBytes.{copied-to-none, copied-to-next, copied-to-end}
 use Rattle.sheet.proofs.writing.put_bytes.Goals as goal
 

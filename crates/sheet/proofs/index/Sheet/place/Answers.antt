@@ -11,14 +11,11 @@ returns-then-i-ge-MOVES c = (
   past-array c.args.self.places 250 _ (search rules) c.wide-i.ensures.0
       c.if-i-ge-MOVES.true,
   search rules,
-
 )
-
 
 pub returns : goal.returns
 returns c = (
   ap (λ i. get_or c.args.self.places i 0) c.wide-i.ensures.0,
   (let f : Fits w16 (get_or c.args.self.places
       c.wide-i.result 0) = search rules in f.fits),
-
 )
