@@ -15,6 +15,9 @@ const TYPES: [(&str, usize); 8] = [
 
 const QUOTE: char = '"';
 
+/// The words that a clause begins with.
+const CLAUSES: [&str; 2] = ["requires", "ensures"];
+
 /// A word, a string or a sign of a source and its place there.
 struct Token<'a> {
     at: usize,
@@ -39,16 +42,35 @@ fn tokens(source: &str) -> Vec<Token<'_>> {
 }
 
 /// The length of what is no code at the front of a text: a space, a comment, a
-/// contract, or a character. A sign that nothing closes is code.
+/// clause, an import for clauses, or a character. What nothing closes is code.
 fn no_code(text: &str) -> usize {
     let first = text.chars().next().unwrap_or_default();
     match first {
-        '⌜' => text.find('⌝').map_or(0, |end| end + '⌝'.len_utf8()),
+        _ if CLAUSES.contains(&&text[..word(text)]) => clause(text),
+        'g' if text.starts_with("ghost use ") => text.find(';').map_or(0, |end| end + 1),
         '\'' => character(text),
         '/' if text.starts_with("//") => text.find('\n').unwrap_or(text.len()),
         _ if first.is_whitespace() => first.len_utf8(),
         _ => 0,
     }
+}
+
+/// The length of a clause at the front of a text: its word, its name if it has
+/// one, and what stands in its braces. 0 if they are not closed.
+fn clause(text: &str) -> usize {
+    let Some(start) = text.find('{') else {
+        return 0;
+    };
+    let mut depth = 0;
+    for (at, sign) in text[start..].char_indices() {
+        match sign {
+            '{' => depth += 1,
+            '}' if depth == 1 => return start + at + 1,
+            '}' => depth -= 1,
+            _ => {}
+        }
+    }
+    0
 }
 
 /// The length of a string with its quotes, 0 if it does not end on its line.
@@ -243,7 +265,7 @@ pub fn arrays<'a>(source: &'a str, constants: &Constants) -> Vec<Array<'a>> {
                 Some(inside) if !is_array(inside) => continue,
                 inside => inside.and_then(|inside| bytes(inside, constants)),
             },
-            "⌜" | "⌝" => None,
+            "requires" | "ensures" | "ghost" => None,
             text if text.starts_with(QUOTE) => quoted(text),
             _ => continue,
         };

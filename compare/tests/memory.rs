@@ -37,7 +37,7 @@ fn crates() -> Vec<&'static str> {
 /// The crates that the line of a crate names.
 fn named_by(name: &str) -> impl Iterator<Item = &'static str> {
     let mut lines = CRATES.lines().filter_map(|line| line.split_once(':'));
-    let line = lines.find(|(first, _)| *first == name);
+    let line = lines.find(|(first, _)| first.split(' ').next() == Some(name));
     let (_, named) = line.unwrap_or_else(|| panic!("no line for {name}"));
     named.split_whitespace()
 }
@@ -143,7 +143,10 @@ fn an_array_that_can_be_read_is_seen() {
         ("[\n    0u64; // 1\n    65\n]", &[520]),
         ("[0u8, 255u8, 2u16,]", &[4]),
         ("// [0u64; 65]\n[u8; 1]", &[1]),
-        ("⌜ [u64; 65]\n[0; n] ⌝ [u8; 1] // ⌜\n[u8; 2]", &[1, 2]),
+        (
+            "ensures a { [u64; 65] {\n[0; n]} } [u8; 1] // requires\n[u8; 2]",
+            &[1, 2],
+        ),
         (
             r#"b"[0u64; 65] \" " b'"' [u8; 1] '\'' &'a [u8; 2]"#,
             &[14, 1, 2],
@@ -193,8 +196,8 @@ fn what_cannot_be_read_is_seen() {
         "[u8; 2; 3]",
         // Nothing closes them.
         "[u8; 2",
-        "⌜ a",
-        "a ⌝",
+        "requires { a",
+        "ghost use a",
         "\"a\n",
     ];
     for text in texts {

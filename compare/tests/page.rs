@@ -10,7 +10,9 @@ const EXAMPLE: &str = include_str!("../../examples/panel.c");
 
 /// The numbers that definitions of the source give its causes.
 fn defined() -> Vec<u32> {
-    let lines = NUMBERS.lines().filter(|line| line.starts_with("numberOf "));
+    let lines = NUMBERS
+        .lines()
+        .filter(|line| line.starts_with("number_of "));
     let definitions = lines.filter_map(|line| line.split_once(" = "));
     definitions
         .map(|(_, number)| number.parse().expect("a number"))
