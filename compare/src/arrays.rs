@@ -15,8 +15,8 @@ const TYPES: [(&str, usize); 8] = [
 
 const QUOTE: char = '"';
 
-/// The words that a clause begins with.
-const CLAUSES: [&str; 2] = ["requires", "ensures"];
+/// The words that a clause or a ghost member begins with.
+const CLAUSES: [&str; 3] = ["requires", "ensures", "ghost"];
 
 /// A word, a string or a sign of a source and its place there.
 struct Token<'a> {
@@ -46,8 +46,8 @@ fn tokens(source: &str) -> Vec<Token<'_>> {
 fn no_code(text: &str) -> usize {
     let first = text.chars().next().unwrap_or_default();
     match first {
-        _ if CLAUSES.contains(&&text[..word(text)]) => clause(text),
         'g' if text.starts_with("ghost use ") => text.find(';').map_or(0, |end| end + 1),
+        _ if CLAUSES.contains(&&text[..word(text)]) => clause(text),
         '\'' => character(text),
         '/' if text.starts_with("//") => text.find('\n').unwrap_or(text.len()),
         _ if first.is_whitespace() => first.len_utf8(),
@@ -55,8 +55,8 @@ fn no_code(text: &str) -> usize {
     }
 }
 
-/// The length of a clause at the front of a text: its word, its name if it has
-/// one, and what stands in its braces. 0 if they are not closed.
+/// The length of a clause or a ghost member at the front of a text: its word, its
+/// name if it has one, and what stands in its braces. 0 if they are not closed.
 fn clause(text: &str) -> usize {
     let Some(start) = text.find('{') else {
         return 0;
@@ -236,6 +236,16 @@ fn bytes(inside: &[Token], constants: &Constants) -> Option<usize> {
     }
 }
 
+/// The bytes of an array that a number is made of, by the words before it, which
+/// begin with the number's type.
+fn of_number(before: &[Token]) -> Option<usize> {
+    let words: Vec<&str> = before.iter().rev().take(5).map(|t| t.text).collect();
+    match words[..] {
+        ["(", "from_le_bytes", ":", ":", name] => plain(name),
+        _ => None,
+    }
+}
+
 /// Whether what stands in brackets makes an array, `X; N` or a list. An index, a
 /// slice, its type and an attribute have neither sign.
 fn is_array(inside: &[Token]) -> bool {
@@ -263,7 +273,9 @@ pub fn arrays<'a>(source: &'a str, constants: &Constants) -> Vec<Array<'a>> {
         let bytes = match token.text {
             "[" => match inside(&tokens[index..]) {
                 Some(inside) if !is_array(inside) => continue,
-                inside => inside.and_then(|inside| bytes(inside, constants)),
+                inside => inside
+                    .and_then(|inside| bytes(inside, constants))
+                    .or_else(|| of_number(&tokens[..index])),
             },
             "requires" | "ensures" | "ghost" => None,
             text if text.starts_with(QUOTE) => quoted(text),

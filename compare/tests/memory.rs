@@ -123,7 +123,7 @@ fn seen(text: &str) -> Vec<Option<usize>> {
 
 #[test]
 fn an_array_that_can_be_read_is_seen() {
-    let texts: [(&str, &[usize]); 19] = [
+    let texts: [(&str, &[usize]); 20] = [
         ("let a = [0u8; 513];", &[513]),
         ("fn f(a: &[u64; 65]) -> [u32; 33]", &[520, 132]),
         ("f([0u16; 257])", &[514]),
@@ -142,6 +142,7 @@ fn an_array_that_can_be_read_is_seen() {
         ),
         ("[\n    0u64; // 1\n    65\n]", &[520]),
         ("[0u8, 255u8, 2u16,]", &[4]),
+        ("u16::from_le_bytes([low, high])", &[2]),
         ("// [0u64; 65]\n[u8; 1]", &[1]),
         (
             "ensures a { [u64; 65] {\n[0; n]} } [u8; 1] // requires\n[u8; 2]",

@@ -9,13 +9,12 @@ use native.Mathlib.Omega.{arith}
 use borrow.Author.Tests.{lt-ltb}
 use lib.Dec.{ltb}
 use lib.ListN.{length, get_or, take}
+use Rattle.std.specs.Prelude.{Result, Err}
 use Rattle.common.specs.Reply.{Reply, given, refused, clear, unless}
 use Rattle.common.proofs.Reply.{unless-clear}
 use Rattle.common.proofs.Clear.{clear-each}
 use Rattle.sheet.specs.declared.index.Sheet.{Sheet}
-use Rattle.sheet.specs.declared.refusal.Cause.{Cause}
-use Rattle.sheet.specs.declared.refusal.Verdict.{Verdict}
-use Rattle.sheet.specs.declared.refusal.Verdict.TheVariants.{Refused}
+use Rattle.sheet.specs.declared.refusal.Refusal.{Refusal}
 use Rattle.sheet.specs.Refusal.{number_of, verdict_says}
 use Rattle.sheet.specs.Record.{byte, body_at}
 use Rattle.sheet.specs.Model.{Model, move_at, move_of}
@@ -41,15 +40,18 @@ module _ {file : List ℕ} {x : Sheet} {m : Model} (i : Indexes file x m) (state
   pub left-none : v ≡ 255 → state ≡ state_by m state machine command
   left-none z = sym (none_moves m state machine command (sym e ∙ z))
 
-  module _ (n : v ≡ 255 → ⊥) where
+  abbrev places : List ℕ
+  places = take x.moves x.places
+
+  module _ (inside : v < length places) where
+    some : v ≡ 255 → ⊥
+    some z = let f : ⊥ = omega (arith, (indexes-listed i).one_each, (indexes-valid i).few-moves) in f
+
     acted-answers : Answers m state machine command v
-    acted-answers = rw e (⊎_elim (λ f. f) (λ f. absurd (n (e ∙ f.0))) (found-or-none m state machine command))
+    acted-answers = rw e (⊎_elim (λ f. f) (λ f. absurd (some (e ∙ f.0))) (found-or-none m state machine command))
 
-    abbrev places : List ℕ
-    places = take x.moves x.places
-
-    pub acted-place : {w : ℕ} → w ≡ v → w < length places
-    acted-place q = omega (arith, acted-answers.there, (indexes-listed i).one_each)
+    acted-place : {w : ℕ} → w ≡ v → w < length places
+    acted-place q = omega arith
 
     pub acted-long : {w : ℕ} {body : List ℕ} → w ≡ v → body ≡ body_at file (get_or places w 0) → 3 < length body
     acted-long q b = listed-long (indexes-listed i) (acted-place q) b
@@ -94,12 +96,12 @@ module _ (m : Model) (state : List ℕ) (machine command : ℕ) where
     pub accepted-leaves : {after : List ℕ} → after ≡ state_by m state machine command → after ≡ state_after tested state
     accepted-leaves h = h ∙ sym (ap (λ y. state_after y state) accepted-is)
 
-  module _ {r : Verdict} {cause : Cause} {place : ℕ} (e : verdict_says r ≡ unless (state_faults m state) (given tt))
-      (a : r ≡ Refused cause place) where
-    refused-is : tested ≡ refused (number_of cause) place
+  module _ {r : Result Unit Refusal} {why : Refusal} (e : verdict_says r ≡ unless (state_faults m state) (given tt))
+      (a : r ≡ Err why) where
+    refused-is : tested ≡ refused (number_of why.cause) why.place
     refused-is = refused-unless _ e a _
 
-    pub refused_says : refused (number_of cause) place ≡ effect_reply tested
+    pub refused_says : refused (number_of why.cause) why.place ≡ effect_reply tested
     refused_says = sym (ap effect_reply refused-is)
 
     pub refused-leaves : state ≡ state_after tested state

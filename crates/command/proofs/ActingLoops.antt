@@ -3,10 +3,10 @@
 use Prim.Native.Nat.{ℕ, ◌+◌, ◌≤◌, ◌<◌}
 use mathlib.Core.Path.{◌≡◌, refl, sym, ◌∙◌}
 use mathlib.Core.List.{List}
-use mathlib.Core.Bool.{Bool, true, false, not, ◌&&◌, and-true}
+use mathlib.Core.Bool.{Bool, true, false, ◌&&◌, and-true}
 use native.Mathlib.Omega.{arith}
-use borrow.Author.Count.{below_none, below_more}
-use borrow.Author.Tests.{not-true, not-false, eq-eqb, ne_eqb}
+use borrow.Author.Count.{below_more}
+use borrow.Author.Tests.{eq-eqb, ne_eqb}
 use lib.Dec.{eqb}
 use lib.ListN.{length, get_or}
 use Rattle.common.specs.Lists.{all}
@@ -14,11 +14,15 @@ use Rattle.common.specs.Bits.{bit}
 use Rattle.common.proofs.Bools.{and_intro, and-false-left, and-false-right, false-of-not-true}
 use Rattle.common.proofs.Lists.{all_append}
 use Rattle.common.proofs.Search.{find-up_to-is, find-up_to-none}
+use Rattle.std.specs.Borrow.{Bor}
+use Rattle.std.proofs.Common.{Some, None}
+use Rattle.sheet.specs.declared.guard.Guards.{Guards}
+use Rattle.sheet.specs.Kept.Guards.{GivesGuard}
 use Rattle.sheet.specs.Record.{byte, body_at}
 use Rattle.sheet.specs.Model.{Guard, Model, move_of}
 use Rattle.sheet.specs.Kept.Indexed.{Listed}
 use Rattle.sheet.proofs.Indexed.{listed-present, listed-move}
-use Rattle.sheet.proofs.NeedLoop.{NeedsUpto, needs-none, needs-next, need-fails, needs-end}
+use Rattle.sheet.proofs.GuardLoop.{GuardsUpto, guards-none, guards-next, guard-fails, guards-end}
 use Rattle.command.specs.State.{mode_of, tag_of}
 use Rattle.command.specs.Apply.{acts, acting_move}
 use Rattle.command.proofs.Acts.{acts-answers}
@@ -32,29 +36,28 @@ holds state g = bit g.mask (mode_of state g.machine)
 pub record Holding (state : List ℕ) (gs : List Guard) : Type 0 where
   pub each : all (holds state) gs ≡ true
 
-module _ {state body : List ℕ} where
-  pub holding-none : NeedsUpto (Holding state) body 4
+module _ {state : List ℕ} where
+  pub holding-none : {g start : Guards} {lent : Bor (List ℕ)} → g ≡ start → start.body ≡ lent → start.at ≡ 4
+      → GuardsUpto (Holding state) lent.now g
   unfolding all
-  holding-none = needs-none (record { each = refl })
+  holding-none e same first = guards-none e same first (record { each = refl })
 
-  module _ {at mode : ℕ} {b : Bool} (u : NeedsUpto (Holding state) body at) (h : at + 1 < length body)
-      (e : mode ≡ mode_of state (byte body at)) (r : b ≡ bit (byte body (at + 1)) mode) where
-    here : b ≡ bit (byte body (at + 1)) (mode_of state (byte body at))
-    here = rw (← e) r
+  module _ {body : List ℕ} {g g' : Guards} (u : GuardsUpto (Holding state) body g) where
+    module _ {mode : ℕ} {b : Bool} {x : _} (s : GivesGuard g (Some x) g') (e : mode ≡ mode_of state x.machine.0)
+        (r : b ≡ bit x.mask mode) where
+      here : b ≡ bit x.mask (mode_of state x.machine.0)
+      here = rw (← e) r
 
-    pub holding-next : not b ≡ false → NeedsUpto (Holding state) body (at + 2)
-    unfolding all
-    holding-next t =
-        needs-next u h (λ gs p. record {
-          each = rw (all_append, and-true) (and_intro p.each (sym here ∙ not-false b t));
-        })
+      pub holding-next : b ≡ true → GuardsUpto (Holding state) body g'
+      unfolding all
+      holding-next t =
+          guards-next u s (λ gs p. record { each = rw (all_append, and-true) (and_intro p.each (sym here ∙ t)) })
 
-    pub holding-fails : not b ≡ true → false ≡ all (holds state) (move_of body).guards
-    holding-fails f = need-fails u h (holds state) (sym here ∙ not-true b f)
+      pub holding-fails : b ≡ false → false ≡ all (holds state) (move_of body).guards
+      holding-fails f = guard-fails u s (holds state) (sym here ∙ f)
 
-  pub holding-end : {at : ℕ} → NeedsUpto (Holding state) body at → length body ≤ at + 1
-      → true ≡ all (holds state) (move_of body).guards
-  holding-end u last = sym (needs-end u last).each
+    pub holding-end : GivesGuard g None g' → true ≡ all (holds state) (move_of body).guards
+    holding-end s = sym (guards-end u s).each
 
 -- `answers`: test by test
 
@@ -68,26 +71,23 @@ module _ (state body : List ℕ) (machine mode command : ℕ) where
   unfolding move_of
   other-machine n = rw (ne_eqb (byte body 0) machine n)
 
-  pub other-mode : not (eqb (byte body 1) mode) ≡ true → false ≡ answering state body machine mode command
+  pub other-mode : (byte body 1 ≡ mode → ⊥) → false ≡ answering state body machine mode command
   unfolding move_of
   other-mode n =
       let here : Bool = eqb (byte body 0) machine in
-      sym (and-false-left _ (and-false-left _ (and-false-right here (not-true _ n))))
+      sym (and-false-left _ (and-false-left _ (and-false-right here (ne_eqb _ _ n))))
 
-  pub other-command : not (eqb (byte body 3) command) ≡ true → false ≡ answering state body machine mode command
+  pub other-command : (byte body 3 ≡ command → ⊥) → false ≡ answering state body machine mode command
   unfolding move_of
   other-command n =
       let here : Bool = eqb (byte body 0) machine && eqb (byte body 1) mode in
-      sym (and-false-left _ (and-false-right here (not-true _ n)))
+      sym (and-false-left _ (and-false-right here (ne_eqb _ _ n)))
 
-  pub needs-left : {r : Bool} → byte body 0 ≡ machine → not (eqb (byte body 1) mode) ≡ false
-      → not (eqb (byte body 3) command) ≡ false → r ≡ all (holds state) (move_of body).guards
+  pub needs-left : {r : Bool} → byte body 0 ≡ machine → byte body 1 ≡ mode → byte body 3 ≡ command → r ≡ all (holds state) (move_of body).guards
       → r ≡ answering state body machine mode command
   unfolding move_of
   needs-left a b c e =
-      let from : eqb (byte body 1) mode ≡ true = not-false _ b in
-      let asked : eqb (byte body 3) command ≡ true = not-false _ c in
-      rw (eq-eqb (byte body 0) machine a, from, asked) e
+      rw (eq-eqb (byte body 0) machine a, eq-eqb (byte body 1) mode b, eq-eqb (byte body 3) command c) e
 
 -- `acting`: no move before move v answers
 
@@ -102,9 +102,6 @@ unanswered-tagged m state machine command e n =
     sym
     (find-up_to-none (acts m state machine command) 255 (λ j l.
     false-of-not-true (λ t. n (e ∙ (acts-answers m state machine command j l t).no-tag))))
-
-pub unanswered-none : (m : Model) (state : List ℕ) (machine command : ℕ) → Unanswered m state machine command 0
-unanswered-none m state machine command = record { none = below_none (λ j. acts m state machine command j ≡ false) }
 
 module _ {file places state : List ℕ} {machine command : ℕ} {m : Model} (l : Listed m file places) where
   module _ {mode v : ℕ} {body : List ℕ} {r : Bool} (free : tag_of state machine ≡ 0) (e : mode ≡ mode_of state machine)

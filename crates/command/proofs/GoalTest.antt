@@ -5,7 +5,7 @@ use mathlib.Core.Path.{◌≡◌, sym, ap, ◌∙◌}
 use mathlib.Core.List.{List}
 use mathlib.Core.Bool.{Bool, true, false}
 use native.Mathlib.Omega.{arith}
-use borrow.Author.Count.{below_none, below_more}
+use borrow.Author.Count.{below_more}
 use borrow.Author.Tests.{lt-ltb, le-ltb, eq-eqb, ne_eqb}
 use lib.Dec.{eqb}
 use lib.ListN.{length}
@@ -29,9 +29,6 @@ FirstBad goal modes i =
     (m : Model) → CountsOf m modes → i ≡ find (bad_byte m goal) (up_to (length goal)) (length goal)
 
 module _ {goal modes : List ℕ} where
-  pub good_none : GoodBytes goal modes 0
-  good_none = record { each = λ m h. below_none _ }
-
   module _ {i : ℕ} (g : GoodBytes goal modes i) where
     pub good-next : {b : Bool} → (byte goal i ≡ 0 → ⊥) → b ≡ beyond (byte modes i) (byte goal i) → b ≡ false
         → GoodBytes goal modes (i + 1)
@@ -57,10 +54,8 @@ module _ {goal modes : List ℕ} where
         bad-here l (λ m h.
         or_right (eqb (byte goal i) 0) (ap (λ k. beyond k (byte goal i)) (sym (h i)) ∙ sym e ∙ t))
 
-    pub good-end : i ≤ length goal → length goal ≤ i → FirstBad goal modes i
-    good-end l k m h =
-        let e : i ≡ length goal = omega arith in
-        e ∙ sym (find-up_to-none (bad_byte m goal) (length goal) (λ j b. g.each m h j (omega arith)))
+    pub good-end : length goal ≤ i → FirstBad goal modes (length goal)
+    good-end k m h = sym (find-up_to-none (bad_byte m goal) (length goal) (λ j b. g.each m h j (omega arith)))
 
 -- The test
 

@@ -15,7 +15,6 @@ pub mod Changes
 pub mod CoverLoop
 pub mod CoverSets
 pub mod Covers
-pub mod EachMachine
 pub mod Facts
 pub mod Fall
 pub mod Falls

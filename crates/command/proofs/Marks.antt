@@ -3,7 +3,7 @@
 -- Assumes nothing.
 use Prim.Native.Nat.{ℕ, suc, ◌-◌, ◌≤◌, ◌<◌, zero-le}
 use mathlib.Core.Path.{◌≡◌, refl, sym, ◌∙◌}
-use mathlib.Core.Logic.{◌↔◌, ◌⊎◌, inl, inr, ⊎_elim}
+use mathlib.Core.Logic.{◌↔◌, ⊎_elim}
 use mathlib.Core.List.Memᴰ
 use mathlib.Core.List.{List}
 use mathlib.Core.Bool.{Bool, true, false, ◌&&◌, ◌||◌, or-false}
@@ -144,34 +144,27 @@ Goes named groups marks top j s =
 
 -- as the loop keeps it
 pub record Pass (named : List ℕ) (groups marks top j s : ℕ) : Type 0 where
-  pub few : j ≤ top
   pub goes : Goes named groups marks top j s
 
-module _ {named : List ℕ} {groups marks top : ℕ} where
-  pub pass-start : Pass named groups marks top top marks
-  pass-start = record { few = omega arith; goes = λ m plan counts all valid shaped by same k. k }
+module _ {named : List ℕ} {groups marks top : ℕ} (most : top ≤ 32) {j s : ℕ} (p : Pass named groups marks top j s) (some : 0 < j)
+    (few : j ≤ top) where
+  next : (t : ℕ) → ((a : ℕ) → bit t a ≡ (bit s a || (bit (union s groups) (j - 1) && bit (get_or named (j - 1) 0) a)))
+      → Pass named groups marks top (j - 1) t
+  next t bits =
+      record {
+        goes = λ m plan counts all valid shaped by same k.
+            marked_next m valid plan counts shaped all (p.goes m plan counts all valid shaped by same k) some by (omega arith) t
+            (rw (bit-union, same (j - 1) (omega arith)) at bits);
+      }
 
-  module _ (most : top ≤ 32) {j s : ℕ} (p : Pass named groups marks top j s) (some : 0 < j) where
-    next : (t : ℕ) → ((a : ℕ) → bit t a ≡ (bit s a || (bit (union s groups) (j - 1) && bit (get_or named (j - 1) 0) a)))
-        → Pass named groups marks top (j - 1) t
-    next t bits =
-        record {
-          few = omega (arith, p.few);
-          goes = λ m plan counts all valid shaped by same k.
-              marked_next m valid plan counts shaped all (p.goes m plan counts all valid shaped by same k) some by
-              (omega (arith, p.few)) t
-              (rw (bit-union, same (j - 1) (omega (arith, p.few))) at bits);
-        }
+  -- a group that is marked or one of these, as the code tests it, has what it names marked
+  pub pass-marks : {t u : ℕ} {b : Bool} → u ≡ union s groups → b ≡ bit u (j - 1) → b ≡ true
+      → t ≡ union s (get_or named (j - 1) 0) → Pass named groups marks top (j - 1) t
+  pass-marks {t} e f h g = next t (λ a. rw (g, bit-union, ← e, sym f ∙ h))
 
-    -- a group that is marked or one of these, as the code tests it, has what it names marked
-    pub pass-next : {t u : ℕ} {b : Bool} → u ≡ union s groups → b ≡ bit u (j - 1)
-        → ((b ≡ true) × (t ≡ union s (get_or named (j - 1) 0))) ⊎ ((b ≡ false) × (t ≡ s))
-        → Pass named groups marks top (j - 1) t
-    pass-next {t} e f (inl (h, g)) = next t (λ a. rw (g, bit-union, ← e, sym f ∙ h))
-    pass-next {t} e f (inr (h, g)) = next t (λ a. rw (g, ← e, sym f ∙ h, or-false))
-
-  pub pass-end : {j s : ℕ} → Pass named groups marks top j s → j ≤ 0 → Goes named groups marks top 0 s
-  pass-end {j} p end = let zero-there : j ≡ 0 = omega arith in rw zero-there at p.goes
+  -- another changes nothing
+  pub pass-leaves : {u : ℕ} {b : Bool} → u ≡ union s groups → b ≡ bit u (j - 1) → b ≡ false → Pass named groups marks top (j - 1) s
+  pass-leaves e f h = next s (λ a. rw (← e, sym f ∙ h, or-false))
 
 -- A pass from the highest number: what is upstream of some groups
 pub some_end : {named : List ℕ} {groups s : ℕ} → Goes named groups 0 32 0 s → (m : Model) (plan : List ℕ) (counts : ℕ → Bool) → Valid m

@@ -100,19 +100,18 @@ module _ (state masks numbers : List ℕ) where
   pub unmet-none : UnmetUpto 0 0
   unmet-none = record { upto = lacking-none numbers _ }
 
-  pub unmet-next : {i a r g k b mode t : ℕ} {has : Bool} → UnmetUpto i r → a ≡ i → a < length numbers
-      → g ≡ group_of numbers i → k ≡ g → b ≡ i → mode ≡ mode_of state i → has ≡ bit (get_or masks b 0) mode
+  pub unmet-next : {i r g k mode t : ℕ} {has : Bool} → UnmetUpto i r → i < length numbers → g ≡ group_of numbers i → k ≡ g
+      → mode ≡ mode_of state i → has ≡ bit (get_or masks i 0) mode
       → ((j : ℕ) → bit t j ≡ (bit r j || (not has && eqb k j))) → UnmetUpto (i + 1) t
-  unmet-next u o l e f w d h q =
-      record { upto = lacking-next numbers _ u.upto (omega arith) e f (rw (← d, ← w, ← h) q) }
+  unmet-next u l e f d h q = record { upto = lacking-next numbers _ u.upto l e f (rw (← d, ← h) q) }
 
-  pub unmet-end : {i a r : ℕ} → UnmetUpto i r → a ≡ i → length numbers ≤ a → (m : Model) (plan : List ℕ) (goal : Masks)
+  pub unmet-end : {i r : ℕ} → UnmetUpto i r → length numbers ≤ i → (m : Model) (plan : List ℕ) (goal : Masks)
       → Placed m plan state numbers → Allows m goal masks → UnmetSet m plan state goal r
   unfolding met
-  unmet-end u o l m plan goal p a =
+  unmet-end u l m plan goal p a =
       record {
         bits = λ k h.
-            lacking-end numbers _ u.upto (omega arith) p (λ j. allows goal j (mode_of state j))
+            lacking-end numbers _ u.upto l p (λ j. allows goal j (mode_of state j))
             (λ j b. a.each j _ (omega (arith, placed-numbers p)) (placed-mode p j (omega (arith, placed-numbers p))))
             k;
       }
@@ -124,26 +123,26 @@ module _ (state masks numbers : List ℕ) where
   pub failed-none : FailedUpto 0 0
   failed-none = record { upto = lacking-none numbers _ }
 
-  pub failed-next : {i a r g k b mode tag t : ℕ} {has : Bool} (s : ℕ) → FailedUpto i r → a ≡ i → a < length numbers
-      → g ≡ group_of numbers i → k ≡ g → b ≡ i → mode ≡ mode_of state i → has ≡ bit (get_or masks b 0) mode
+  pub failed-next : {i r g k mode tag t : ℕ} {has : Bool} (s : ℕ) → FailedUpto i r → i < length numbers
+      → g ≡ group_of numbers i → k ≡ g → mode ≡ mode_of state i → has ≡ bit (get_or masks i 0) mode
       → ((j : ℕ) → bit s j ≡ (bit r j || (not has && eqb k j)))
       → tag ≡ tag_of state i → ((j : ℕ) → bit t j ≡ (bit s j || (not (eqb tag 0) && eqb k j)))
       → FailedUpto (i + 1) t
-  failed-next {i} {r = r} {k = k} {tag = tag} {has = has} s u o l e f w d h q c p =
-      let fine : has && eqb tag 0 ≡ held_free state masks i = rw (h, w, d, c) refl in
+  failed-next {i} {r = r} {k = k} {tag = tag} {has = has} s u l e f d h q c p =
+      let fine : has && eqb tag 0 ≡ held_free state masks i = rw (h, d, c) refl in
       record {
-        upto = lacking-next numbers _ u.upto (omega arith) e f (λ j.
+        upto = lacking-next numbers _ u.upto l e f (λ j.
             p j ∙ ap (λ x. x || (not (eqb tag 0) && eqb k j)) (q j)
             ∙ two-tests (bit r j) has (eqb tag 0) (eqb k j)
             ∙ ap (λ x. bit r j || (not x && eqb k j)) fine);
       }
 
-  pub failed-end : {i a r : ℕ} → FailedUpto i r → a ≡ i → length numbers ≤ a → (m : Model) (plan : List ℕ)
+  pub failed-end : {i r : ℕ} → FailedUpto i r → length numbers ≤ i → (m : Model) (plan : List ℕ)
       → Placed m plan state numbers → masks ≡ pad 32 m.live → FailedSet m plan state r
   unfolding live_group
-  failed-end u o l m plan p s =
+  failed-end u l m plan p s =
       record {
         bits = λ k h.
-            lacking-end numbers _ u.upto (omega arith) p (λ j. is_live_mode m j (mode_of state j) && untagged state j)
+            lacking-end numbers _ u.upto l p (λ j. is_live_mode m j (mode_of state j) && untagged state j)
             (λ j b. rw (s, get_or-pad)) k;
       }

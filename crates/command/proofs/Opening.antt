@@ -192,9 +192,6 @@ module _ {m : Model} {file plan : List ℕ} {x : Sheet} {g : Groups} {starts : L
   live-length : length (pad 32 m.live) ≡ 32
   live-length = length-pad 32 m.live (omega (arith, opened-valid.same_length, opened-valid.few-machines))
 
-  pub modes-long : 32 ≡ length x.modes
-  modes-long = sym (indexes-array o.indexes)
-
   pub live-long : 32 ≡ length x.live
   live-long = sym (ap length opened-live ∙ live-length)
 
@@ -282,6 +279,3 @@ module _ {m : Model} {file plan : List ℕ} {x : Sheet} {g : Groups} {starts : L
             allows = allows;
             leaves = unmet m plan goal opened-placed allows;
           }
-
--- the lengths of the arrays that are lent
-pub ruleset lengths = (numbers-long, weights-long, sizes-long, modes-long, live-long)

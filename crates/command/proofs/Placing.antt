@@ -76,6 +76,10 @@ module _ {m : Model} {plan state numbers : List ℕ} (p : Placed m plan state nu
       omega (arith, placed-group i, get_or-eq_default (groups_in m plan) 0 {n = i} (omega (arith, placed-groups))))
 
 module _ {m : Model} {plan state facts zeros starts : List ℕ} (kept : Kept m plan state facts zeros starts) where
+  -- what `numbers` asks
+  pub kept-known : (length facts ≡ 128) × (machines_in state ≤ 32)
+  kept-known = (kept.long, placed-known kept.placed)
+
   -- the numbers of the machines that the state has
   pub kept-placed : {numbers : List ℕ} → numbers ≡ numbers_in facts (machines_in state) → Placed m plan state numbers
   kept-placed e =

@@ -39,14 +39,18 @@ number-rises c d i (suc n) h =
     (λ l. omega (arith, number-rises c d i n (le_of_suc-le-suc l)))
     (eq-or-lt_of_le h)
 
+-- the state has two bytes for each machine
+pub weighed-bytes : {m : Model} {numbers weights : List ℕ} (state : List ℕ) → Weighed m numbers weights → clear (state_faults m state) ≡ true
+    → 2 * length numbers ≤ length state
+weighed-bytes {m} state w passes = omega (arith, w.all-machines, (sound-state m state passes).long)
+
 -- each number is a place of an array of 32
 abbrev pub Places : List ℕ → Type 0
 Places numbers = (i : ℕ) → i < length numbers → get_or numbers i 0 < 32
 
 -- the number of machine i, as it was read, is such a place
-pub number-place : (numbers : List ℕ) {i a g k : ℕ} → Places numbers → a ≡ i → a < length numbers
-    → g ≡ group_of numbers i → k ≡ g → k < 32
-number-place numbers {i} places o l e f = rw (f, e) (places i (omega arith))
+number-place : (numbers : List ℕ) {i g k : ℕ} → Places numbers → i < length numbers → g ≡ group_of numbers i → k ≡ g → k < 32
+number-place numbers {i} places l e f = rw (f, e) (places i l)
 
 module _ (state numbers weights : List ℕ) where
   -- what the first i machines add to the mode of group k
@@ -96,42 +100,38 @@ module _ (state numbers weights : List ℕ) where
             group-small w (group_of numbers i),
           )
 
-  -- the turn of machine i, as its number, its mode and its place were read
-  module _ {i a b x : ℕ} (o : a ≡ i) (l : a < length numbers) (f : x ≡ mode_of state i) (d : b ≡ i) where
-    there : i < length numbers
-    there = omega arith
-
+  -- the turn of machine i, as its mode was read
+  module _ {i x : ℕ} (l : i < length numbers) (f : x ≡ mode_of state i) where
     pub mode-byte : {m : Model} → Weighed m numbers weights → clear (state_faults m state) ≡ true
-        → Fits w8 (x * get_or weights b 0)
-    mode-byte w passes = rw (f, d) (omega (arith, mode_small w there passes))
+        → Fits w8 (x * get_or weights i 0)
+    mode-byte w passes = rw f (omega (arith, mode_small w l passes))
 
     module _ {g k : ℕ} {r : List ℕ} (u : PresentUpto i r) (places : Places numbers) (e : g ≡ group_of numbers i)
         (h : k ≡ g) where
       pub sum-byte : {m : Model} → Weighed m numbers weights → clear (state_faults m state) ≡ true
-          → Fits w8 (get_or r k 0 + x * get_or weights b 0)
+          → Fits w8 (get_or r k 0 + x * get_or weights i 0)
       sum-byte {m} w passes =
-          rw (f, d, u.at m w k (number-place numbers places o l e h), h, e)
-          (omega (arith, sum-small w there passes))
+          rw (f, u.at m w k (number-place numbers places l e h), h, e) (omega (arith, sum-small w l passes))
 
-      pub present-next : PresentUpto (i + 1) (set r k (get_or r k 0 + x * get_or weights b 0))
+      pub present-next : PresentUpto (i + 1) (set r k (get_or r k 0 + x * get_or weights i 0))
       present-next =
-          let below = number-place numbers places o l e h in
+          let below = number-place numbers places l e h in
           record {
             inside = omega arith;
             whole = length-set r k _ ∙ u.whole;
             at = λ m w j c.
                 by_cases (eqb j k)
                 (λ t.
-                rw (eqb-true j k t, get_or-set_same r k _ 0 (omega (arith, u.whole)), add-one, u.at m w k below, f, d, h, e)
-                (sym (added-own w there)))
+                rw (eqb-true j k t, get_or-set_same r k _ 0 (omega (arith, u.whole)), add-one, u.at m w k below, f, h, e)
+                (sym (added-own w l)))
                 (λ n.
                 let other = eqb-false j k n in
-                rw (get_or-set_other r k j _ 0 other, add-one, added-other w there j (λ q. other (sym q ∙ sym (h ∙ e))))
+                rw (get_or-set_other r k j _ 0 other, add-one, added-other w l j (λ q. other (sym q ∙ sym (h ∙ e))))
                 (u.at m w j c));
           }
 
-  pub present-end : {i a : ℕ} {r : List ℕ} → PresentUpto i r → a ≡ i → length numbers ≤ a → (m : Model)
-      → Weighed m numbers weights → (k : ℕ) → k < 32 → get_or r k 0 ≡ mode_number m numbers k (modes state)
-  present-end {i} u o l m w k h =
+  pub present-end : {i : ℕ} {r : List ℕ} → PresentUpto i r → length numbers ≤ i → (m : Model) → Weighed m numbers weights
+      → (k : ℕ) → k < 32 → get_or r k 0 ≡ mode_number m numbers k (modes state)
+  present-end {i} u l m w k h =
       let e : i ≡ length numbers = omega (arith, u.inside) in
       u.at m w k h ∙ rw e (sym (mode_number-number m numbers k (modes state)))

@@ -1,19 +1,18 @@
 -- A goal that leaves groups unmet, judged by 16 to 18 and then followed: what its callees are told, and what they say.
 -- Assumes nothing.
-use Prim.Native.Nat.{ℕ, ◌^◌, ◌≤◌, ◌<◌}
-use mathlib.Core.Path.{◌≡◌, sym, ◌∙◌}
+use Prim.Native.Nat.{ℕ, ◌^◌, ◌<◌}
+use mathlib.Core.Path.{◌≡◌, refl, sym, ◌∙◌}
 use mathlib.Core.Logic.{⊎_elim}
 use mathlib.Core.List.{List}
 use mathlib.Core.Bool.{Bool, true}
-use lib.ListN.{length}
+use Rattle.std.specs.Prelude.{Result, Ok}
 use Rattle.common.specs.Bits.{bit}
 use Rattle.common.specs.Lists.{pad}
 use Rattle.common.specs.Reply.{Reply, given, unless}
 use Rattle.common.proofs.Bools.{or_left, or_right, or_cases}
 use Rattle.sets.specs.Kept.Sets.{union}
 use Rattle.sets.proofs.Laws.{bit-union}
-use Rattle.sheet.specs.declared.refusal.Verdict.{Verdict}
-use Rattle.sheet.specs.declared.refusal.Verdict.TheVariants.{Accepted}
+use Rattle.sheet.specs.declared.refusal.Refusal.{Refusal}
 use Rattle.sheet.specs.Model.{Model}
 use Rattle.sheet.specs.Valid.{Valid}
 use Rattle.plan.specs.Groups.{group_count}
@@ -28,26 +27,22 @@ use Rattle.command.specs.Kept.Question.{machines_in, AllowedSets, KeptGoal, Unce
 use Rattle.command.proofs.CoverLoop.{above-only}
 use Rattle.command.proofs.GroupVerdict.{Top}
 use Rattle.command.proofs.LeftUnmet.{left-only, highest-left}
-use Rattle.command.proofs.Placing.{placed-known, kept-placed}
+use Rattle.command.proofs.Placing.{kept-placed}
 use Rattle.command.proofs.Verdicts.{accepted-unless}
 
 -- The groups that a question looks at, as the code finds them: those upstream of the unmet ones, both together, and what the
 -- goal allows of each
-pub record Sought (facts zeros named machines masks wanted : List ℕ) (left above among : ℕ) : Type 0 where
+pub record Sought (plan state facts zeros starts named machines masks wanted : List ℕ) (left above among : ℕ) : Type 0 where
   pub fits : left < 2 ^ 64
   pub up : (m : Model) (plan : List ℕ) (counts : ℕ → Bool) → Valid m → well_shaped m plan ≡ true → NamedBy m plan counts named
       → UpstreamOfSome m plan counts left above
   pub joined : among ≡ union above left
-  pub allowed : (m : Model) (plan state starts : List ℕ) (goal : Masks) → Kept m plan state facts zeros starts
+  pub allowed : (m : Model) (goal : Masks) → Kept m plan state facts zeros starts
       → Allows m goal masks → GroupsOnly m plan among → MemberSets (groups_in m plan) machines
       → AllowedSets m plan goal among wanted
 
 module _ {m : Model} {file plan state : List ℕ} {goal : Masks} {places starts facts zeros named machines live masks : List ℕ}
     {left : ℕ} (q : KeptGoal m file plan state goal places starts facts zeros named machines live masks left) where
-  -- what `numbers` asks
-  pub pursued-few : (length facts ≡ 128) × (machines_in state ≤ 32)
-  pursued-few = (q.kept.long, placed-known q.kept.placed)
-
   -- by the numbers of the groups
   pub pursued-placed : {own : List ℕ} → own ≡ numbers_in facts (machines_in state) → Placed m plan state own
   pursued-placed e = kept-placed q.kept e
@@ -68,17 +63,17 @@ module _ {m : Model} {file plan state : List ℕ} {goal : Masks} {places starts 
           (or_cases (bit above k) (bit left k) (sym (bit-union above left k) ∙ rw j at t))
 
     -- 16 to 18 pass, and the highest is followed
-    pub pursued-replies : (k : ℕ) {v : Verdict} {r : Reply Next}
-        → verdict_says v ≡ unless (cover_faults m plan state goal) (given tt) → v ≡ Accepted → Top left k
+    pub pursued-replies : (k : ℕ) {v : Result Unit Refusal} {r : Reply Next}
+        → verdict_says v ≡ unless (cover_faults m plan state goal) (given tt) → v ≡ Ok tt → Top left k
         → r ≡ follow_by m plan state (λ needs. fulfil m plan state needs k) goal k
         → r ≡ unless (cover_faults m plan state goal) (fulfil m plan state goal (group_count (groups_in m plan)))
     pursued-replies k e a top s =
         s ∙ sym (accepted-unless _ e _ a ∙ highest-left q.kept.placed q.leaves k fits top)
 
-  module _ {wanted : List ℕ} {above among : ℕ} (s : Sought facts zeros named machines masks wanted left above among) where
+  module _ {wanted : List ℕ} {above among : ℕ} (s : Sought plan state facts zeros starts named machines masks wanted left above among) where
     both : AllowedSets m plan goal among wanted
     both =
-        s.allowed m plan state starts goal q.kept q.allows (pursued-among s.fits s.up s.joined) q.members
+        s.allowed m goal q.kept q.allows (pursued-among s.fits s.up s.joined) q.members
 
     pub pursued-left : AllowedSets m plan goal left wanted
     pursued-left = record { each = λ k t. both.each k (rw (s.joined, bit-union) (or_right (bit above k) t)) }
@@ -89,12 +84,12 @@ module _ {m : Model} {file plan state : List ℕ} {goal : Masks} {places starts 
     -- what `cover` asks, by the numbers of the groups and those that are not live
     pub pursued-uncertain : {own : List ℕ} {failed : ℕ} → own ≡ numbers_in facts (machines_in state)
         → ((m : Model) (plan : List ℕ) → Placed m plan state own → live ≡ pad 32 m.live → FailedSet m plan state failed)
-        → Uncertain m file plan state goal places starts facts zeros own wanted left failed above
+        → Uncertain m file plan state goal places starts facts zeros (numbers_in facts (machines_in state)) wanted left failed above
     pursued-uncertain e g =
         record {
           leaves = record {
             kept = q.kept;
-            numbered = (pursued-placed e).numbered;
+            numbered = (pursued-placed refl).numbered;
             unmet-groups = q.leaves;
             only = pursued-only s.fits;
             allows = pursued-left;

@@ -6,8 +6,8 @@ use mathlib.Core.Path.{◌≡◌, refl, sym, ap, ◌∙◌}
 use mathlib.Core.List.{List}
 use mathlib.Core.Bool.{Bool, true, false, not, ◌&&◌, ◌||◌, not-not}
 use native.Mathlib.Omega.{arith}
-use borrow.Author.Tests.{eqb-true, eq-eqb, ne_eqb, le-leb, lt-leb, leb-true, leb-false, not-false}
-use lib.Dec.{eqb, leb}
+use borrow.Author.Tests.{eqb-true, eq-eqb, ne_eqb, le-leb, lt-leb}
+use lib.Dec.{eqb}
 use lib.ListN.{length, get_or}
 use Rattle.common.specs.Bits.{bit}
 use Rattle.common.specs.Reply.{Reply, refused}
@@ -68,26 +68,26 @@ module _ (m : Model) (plan state : List ℕ) (k d v : ℕ) where
       none_of true b c d = refl
 
 -- what looking up an entry gives: the one toward the target, of any goal that allows those modes of the group
-abbrev pub Toward : List ℕ → List ℕ → List ℕ → ℕ → ℕ → ℕ → ℕ → Type 0
-Toward plan facts starts k allowed d v =
-    (m : Model) (state zeros : List ℕ) (goal : Masks) → Kept m plan state facts zeros starts
+abbrev pub Toward : List ℕ → List ℕ → List ℕ → List ℕ → List ℕ → ℕ → ℕ → ℕ → ℕ → Type 0
+Toward plan state facts zeros starts k allowed d v =
+    (m : Model) (goal : Masks) → Kept m plan state facts zeros starts
     → k < group_count (groups_in m plan) → AllowedSet m plan goal k allowed
     → entry d v ≡ entry_toward m plan state goal k
 
 -- what asking for a move's use gives: that of the move by the plan
 abbrev pub Usable : List ℕ → List ℕ → List ℕ → List ℕ → List ℕ → List ℕ → Bool → Type 0
-Usable plan facts zeros starts numbers body u =
-    (m : Model) (state : List ℕ) (v : ℕ) → Kept m plan state facts zeros starts → numbers ≡ groups_in m plan
+Usable plan state facts zeros starts body u =
+    (m : Model) (v : ℕ) → Kept m plan state facts zeros starts
     → v < move_count m → move_of body ≡ move_at m v → u ≡ usable_in m plan v
 
 -- An entry is followed, as the code does it
 
 -- what is known once its move is read: it leads toward the target, it is near and its move is listed
-pub record Led (file places plan starts state facts : List ℕ) (k allowed d v w : ℕ) (body numbers : List ℕ) : Type 0 where
-  pub toward : Toward plan facts starts k allowed d v
+pub record Led (file places plan state facts zeros starts : List ℕ) (k allowed d v w : ℕ) (body numbers : List ℕ) : Type 0 where
+  pub toward : Toward plan state facts zeros starts k allowed d v
   pub move : w ≡ v
   pub near : d ≡ 255 → ⊥
-  pub listed : leb (length places) w ≡ false
+  pub listed : w < length places
   pub reads : body ≡ body_at file (get_or places w 0)
   pub groups : numbers ≡ numbers_in facts (machines_in state)
 
@@ -97,8 +97,8 @@ Stops state numbers body held =
     (m : Model) (plan : List ℕ) → Placed m plan state numbers → ValidMove m (move_of body)
     → HeldUp (groups_in m plan) state (move_of body) held
 
-module _ {file places plan starts state facts : List ℕ} {k allowed d v w : ℕ} {body numbers : List ℕ}
-    (q : Led file places plan starts state facts k allowed d v w body numbers) where
+module _ {file places plan state facts zeros starts : List ℕ} {k allowed d v w : ℕ} {body numbers : List ℕ}
+    (q : Led file places plan state facts zeros starts k allowed d v w body numbers) where
   -- the move is of the group, from the mode that its machine is in, and no need of it fails on the group itself
   pub record Passed (held : ℕ) : Type 0 where
     pub stops : Stops state numbers body held
@@ -106,35 +106,32 @@ module _ {file places plan starts state facts : List ℕ} {k allowed d v w : ℕ
     pub free : bit held k ≡ false
 
   pub passed : {held j : ℕ} {starts-here here : Bool} → Stops state numbers body held
-      → starts-here ≡ from_now numbers state k (move_of body) → not starts-here ≡ false → j ≡ k → here ≡ bit held j
+      → starts-here ≡ from_now numbers state k (move_of body) → starts-here ≡ true → j ≡ k → here ≡ bit held j
       → here ≡ false → Passed held
   passed stops judged h same has n =
-      record { stops = stops; from-here = sym judged ∙ not-false _ h; free = rw same at (sym has ∙ n) }
+      record { stops = stops; from-here = sym judged ∙ h; free = rw same at (sym has ∙ n) }
 
   pub passed-own : {held : ℕ} → Passed held → group_of (numbers_in facts (machines_in state)) (byte body 0) ≡ k
   unfolding move_of
   passed-own p = rw (← q.groups) (eqb-true _ _ (and_left _ _ p.from-here))
 
-module _ {file places plan starts state facts zeros : List ℕ} {k allowed d v w : ℕ} {body numbers : List ℕ} {m : Model}
-    (q : Led file places plan starts state facts k allowed d v w body numbers)
+module _ {file places plan state facts zeros starts : List ℕ} {k allowed d v w : ℕ} {body numbers : List ℕ} {m : Model}
+    (q : Led file places plan state facts zeros starts k allowed d v w body numbers)
     (kept : Kept m plan state facts zeros starts) (l : Listed m file places) where
-  there : w < length places
-  there = leb-false _ _ q.listed
-
   pub led-placed : Placed m plan state numbers
   led-placed = kept-placed kept q.groups
 
   pub led-present : w < move_count m
-  led-present = listed-present l there
+  led-present = listed-present l q.listed
 
   pub led-move : move_of body ≡ move_at m w
-  led-move = listed-move l there q.reads
+  led-move = listed-move l q.listed q.reads
 
   pub led-valid : ValidMove m (move_of body)
-  led-valid = listed-valid l there q.reads led-placed.valid
+  led-valid = listed-valid l q.listed q.reads led-placed.valid
 
   pub led-long : 3 < length body
-  led-long = listed-long l there q.reads
+  led-long = listed-long l q.listed q.reads
 
   pub led-some : 1 < length body
   led-some = omega (arith, led-long)
@@ -152,22 +149,22 @@ module _ {plan state facts zeros starts file places : List ℕ} {k allowed : ℕ
   abbrev followed : Reply Next
   followed = follow_by m plan state (fulfil_below m plan state k) goal k
 
-  module _ {d v : ℕ} (toward : Toward plan facts starts k allowed d v) where
+  module _ {d v : ℕ} (toward : Toward plan state facts zeros starts k allowed d v) where
     refuses : unfit m plan state k (entry d v) ≡ true → refused 15 0 ≡ followed
     unfolding entry_toward
     refuses t =
         sym (Following.follow-unfit m plan state (usable_in m plan) _ goal k
-        (sym (ap (unfit m plan state k) (toward m state zeros goal kept below fits)) ∙ t))
+        (sym (ap (unfit m plan state k) (toward m goal kept below fits)) ∙ t))
 
     pub entry-far : d ≡ 255 → refused 15 0 ≡ followed
     entry-far far = refuses (unfit-far m plan state k d v far)
 
-    pub entry_absent : {w : ℕ} → w ≡ v → leb (length places) w ≡ true → refused 15 0 ≡ followed
+    pub entry_absent : {w : ℕ} → w ≡ v → length places ≤ w → refused 15 0 ≡ followed
     entry_absent {w} e past =
-        refuses (unfit-absent m plan state k d v (omega (arith, l.one_each, leb-true (length places) w past)))
+        refuses (unfit-absent m plan state k d v (omega (arith, l.one_each, e, past)))
 
   -- its move may be of another group or mode, and a need of it may fail on some groups
-  module _ {d v w : ℕ} {body numbers : List ℕ} (q : Led file places plan starts state facts k allowed d v w body numbers)
+  module _ {d v w : ℕ} {body numbers : List ℕ} (q : Led file places plan state facts zeros starts k allowed d v w body numbers)
       {held : ℕ} (stops : Stops state numbers body held) {starts-here : Bool}
       (judged : starts-here ≡ from_now numbers state k (move_of body)) where
     own_held : HeldUp (groups_in m plan) state (move_at m w) held
@@ -182,8 +179,8 @@ module _ {plan state facts zeros starts file places : List ℕ} {k allowed : ℕ
         rw (← q.move) (unfit-judged m plan state k d w q.near (led-present q kept l)
         ∙ rw (← own-judged, held-holds m plan own_held k small, not-not))
 
-    pub entry-elsewhere : not starts-here ≡ true → refused 15 0 ≡ followed
-    entry-elsewhere h = refuses q.toward (unfit-told ∙ or_left _ (or_left _ h))
+    pub entry-elsewhere : starts-here ≡ false → refused 15 0 ≡ followed
+    entry-elsewhere h = refuses q.toward (unfit-told ∙ or_left _ (or_left _ (ap not h)))
 
     -- the group itself is one of these
     pub entry-held : {j : ℕ} {here : Bool} → j ≡ k → here ≡ bit held j → here ≡ true → refused 15 0 ≡ followed
@@ -191,7 +188,7 @@ module _ {plan state facts zeros starts file places : List ℕ} {k allowed : ℕ
         refuses q.toward (unfit-told ∙ or_left _ (or_right (not starts-here) (rw same at (sym has ∙ h))))
 
   -- the move starts from here
-  module _ {d v w : ℕ} {body numbers : List ℕ} {q : Led file places plan starts state facts k allowed d v w body numbers}
+  module _ {d v w : ℕ} {body numbers : List ℕ} {q : Led file places plan state facts zeros starts k allowed d v w body numbers}
       {held : ℕ} (p : Passed q held) where
     own-group : group_of (groups_in m plan) (move_at m w).machine ≡ k
     own-group = eqb-true _ _ (and_left _ _ (sym (own-judged q p.stops (sym p.from-here))))
@@ -201,26 +198,26 @@ module _ {plan state facts zeros starts file places : List ℕ} {k allowed : ℕ
         record { held = own_held q p.stops (sym p.from-here); not_own = rw own-group p.free }
 
     -- whether it is usable by the plan
-    module _ {u : Bool} (usable : Usable plan facts zeros starts numbers body u) where
+    module _ {u : Bool} (usable : Usable plan state facts zeros starts body u) where
       used : u ≡ usable_in m plan w
-      used = usable m state w kept (led-placed q kept l).numbered (led-present q kept l) (led-move q kept l)
+      used = usable m w kept (led-present q kept l) (led-move q kept l)
 
       unfit-used : unfit m plan state k (entry d v) ≡ not u
       unfit-used = unfit-told q p.stops (sym p.from-here) ∙ rw (p.free, used) refl
 
-      pub entry-idle : not u ≡ true → refused 15 0 ≡ followed
-      entry-idle n = refuses q.toward (unfit-used ∙ n)
+      pub entry-idle : u ≡ false → refused 15 0 ≡ followed
+      entry-idle n = refuses q.toward (unfit-used ∙ ap not n)
 
-      entry-fit : not u ≡ false → followed ≡ prepare_by m plan state (fulfil_below m plan state k) k (move_at m w)
+      entry-fit : u ≡ true → followed ≡ prepare_by m plan state (fulfil_below m plan state k) k (move_at m w)
       unfolding entry_toward
       entry-fit y =
-          let led = q.toward m state zeros goal kept below fits in
+          let led = q.toward m goal kept below fits in
           Following.follow-fit m plan state (usable_in m plan) _ goal k
-          (sym (ap (unfit m plan state k) led) ∙ unfit-used ∙ y)
+          (sym (ap (unfit m plan state k) led) ∙ unfit-used ∙ ap not y)
           ∙ sym (ap (λ x. prepare_by m plan state (fulfil_below m plan state k) k (move_at m x.move)) led)
           ∙ rw (← q.move) refl
 
-      pub entry-prepares : {says : Reply Next} → not u ≡ false
+      pub entry-prepares : {says : Reply Next} → u ≡ true
           → ((m : Model) (v : ℕ) → Kept m plan state facts zeros starts → Listed m file places → v < move_count m
           → move_of body ≡ move_at m v → OnlyOutside (groups_in m plan) state (move_at m v) held
           → says ≡ prepare_by m plan state (fulfil_below m plan state (group_of (groups_in m plan) (move_at m v).machine))

@@ -6,15 +6,12 @@ use mathlib.Core.List.{List, ◌++◌}
 use native.Mathlib.Omega.{arith}
 use lib.ListN.{length, take, drop, take-append-drop}
 use lib.Seq.{length-take-le, take_at}
+use Rattle.std.specs.Prelude.{Result, Ok, Err}
 use Rattle.common.specs.Reply.{Reply, given, refused, and_then, output_after}
 use Rattle.common.proofs.Reply.{and_then-given, given-not-refused}
-use Rattle.sheet.specs.declared.refusal.Cause.{Cause}
 use Rattle.sheet.specs.Refusal.{number_of, measured_of}
 use Rattle.sheet.specs.Parse.{Parsed, parse}
-use Rattle.plan.specs.declared.making.Planned.{Planned}
-use Rattle.plan.specs.declared.making.Planned.TheVariants.{Written, Refused}
-use Rattle.sheet.specs.declared.refusal.Length.{Length}
-use Rattle.sheet.specs.declared.refusal.Length.TheVariants.{Bytes, Refused as Unmeasured}
+use Rattle.sheet.specs.declared.refusal.Refusal.{Refusal}
 use Rattle.plan.specs.Groups.{group_count, groups_of}
 use Rattle.plan.specs.Bytes.{table_at, plan_length}
 use Rattle.plan.specs.Planning.{length_reply, plan_reply, buffer_after, scratch_after}
@@ -25,7 +22,8 @@ use Rattle.plan.proofs.Planned.{planned}
 use Rattle.plan.proofs.Planning.{plan-accepted}
 use Rattle.plan.proofs.RecordTests.{bound-at}
 use Rattle.command.specs.Walk.{bound_written}
-use Rattle.command.specs.Walking.{Started, started, plan_front, start_reply}
+use Rattle.command.specs.declared.walking.Started.{Started}
+use Rattle.command.specs.Walking.{started, plan_front, start_reply}
 use Rattle.command.proofs.Turns.{length_most}
 
 -- The lent part
@@ -97,8 +95,8 @@ module _ (sheet buffer scratch : List ℕ) (bytes n : ℕ) (e : n ≡ min bytes 
   reply-is : reply ≡ plan_reply sheet (min bytes (length buffer)) (length scratch)
   reply-is = ap (λ k. plan_reply sheet k (length scratch)) (sym (lent_length bytes n buffer e) ∙ e)
 
-  module _ {r : Planned} (told : planned_of r ≡ told_reply reply) where
-    module _ (w : r ≡ Written) where
+  module _ {r : Result Unit Refusal} (told : planned_of r ≡ told_reply reply) where
+    module _ (w : r ≡ Ok tt) where
       filled : (plan : List ℕ) × Filled sheet plan (length (take n buffer)) (length scratch)
       filled =
           let (plan, gives) = told-given reply (ap planned_of (sym w) ∙ told) in
@@ -127,10 +125,10 @@ module _ (sheet buffer scratch : List ℕ) (bytes n : ℕ) (e : n ≡ min bytes 
             ),
           )
 
-    pub start-refused : {cause : Cause} {place : ℕ} {part left : List ℕ} → r ≡ Refused cause place
+    pub start-refused : {why : Refusal} {part left : List ℕ} → r ≡ Err why
         → part ≡ buffer_after reply (take n buffer) → left ≡ scratch_after reply scratch
         → Begun sheet buffer scratch (plan_reply sheet (min bytes (length buffer)) (length scratch))
-        (refused (number_of cause) place) (part ++ drop n buffer) left
+        (refused (number_of why.cause) why.place) (part ++ drop n buffer) left
     start-refused w written cleared =
         let refuses = told-refused reply (ap planned_of (sym w) ∙ told) in
         rw (← reply-is, refuses) (
@@ -143,16 +141,16 @@ module _ (sheet buffer scratch : List ℕ) (bytes n : ℕ) (e : n ≡ min bytes 
 
 -- By the length that is told, or its refusal
 
-module _ (sheet : List ℕ) {r : Length} (e : measured_of r ≡ length_reply sheet) where
-  pub told-bytes : {bytes : ℕ} → r ≡ Bytes bytes → length_reply sheet ≡ given bytes
+module _ (sheet : List ℕ) {r : Result ℕ Refusal} (e : measured_of r ≡ length_reply sheet) where
+  pub told-bytes : {bytes : ℕ} → r ≡ Ok bytes → length_reply sheet ≡ given bytes
   told-bytes w = sym e ∙ ap measured_of w
 
-  pub front-told : {bytes : ℕ} → r ≡ Bytes bytes → (buffer scratch : ℕ)
+  pub front-told : {bytes : ℕ} → r ≡ Ok bytes → (buffer scratch : ℕ)
       → plan_front sheet buffer scratch ≡ plan_reply sheet (min bytes buffer) scratch
   unfolding plan_front and_then
   front-told w buffer scratch = rw (told-bytes w)
 
-  pub front-refused : {cause : Cause} {place : ℕ} → r ≡ Unmeasured cause place → (buffer scratch : ℕ)
-      → plan_front sheet buffer scratch ≡ refused (number_of cause) place
+  pub front-refused : {why : Refusal} → r ≡ Err why → (buffer scratch : ℕ)
+      → plan_front sheet buffer scratch ≡ refused (number_of why.cause) why.place
   unfolding plan_front and_then
   front-refused w buffer scratch = rw (sym e ∙ ap measured_of w)

@@ -5,7 +5,7 @@ use mathlib.Core.Path.{◌≡◌, sym, ap, ◌∙◌}
 use mathlib.Core.List.{List}
 use mathlib.Core.Bool.{Bool, true, false}
 use native.Mathlib.Omega.{arith}
-use borrow.Author.Count.{below_none, below_more}
+use borrow.Author.Count.{below_more}
 use borrow.Author.Tests.{eq-eqb, ne_eqb, le-leb, lt-leb}
 use lib.Dec.{leb}
 use lib.ListN.{length, get_or}
@@ -22,16 +22,13 @@ pub record GoodPairs (state counts : List ℕ) (i : ℕ) : Type 0 where
   pub each : (m : Model) → CountsOf m counts → (j : ℕ) → j < i → bad_pair m state j ≡ false
 
 module _ {state counts : List ℕ} where
-  pub pairs-none : GoodPairs state counts 0
-  pairs-none = record { each = λ m h. below_none _ }
-
   module _ {i x : ℕ} (g : GoodPairs state counts i) (e : x ≡ mode_of state i) where
-    pub pairs_next : {t : ℕ} → x < get_or counts i 0 → t ≡ tag_of state i → leb 2 t ≡ false → GoodPairs state counts (i + 1)
+    pub pairs_next : {t : ℕ} → x < get_or counts i 0 → t ≡ tag_of state i → t < 2 → GoodPairs state counts (i + 1)
     unfolding bad_pair
     pairs_next l f b =
         record {
           each = λ m h. below_more _ i (g.each m h)
-              (or-false-intro (lt-leb (mode_count m i) (mode_of state i) (omega (arith, h i))) (ap (leb 2) (sym f) ∙ b));
+              (or-false-intro (lt-leb (mode_count m i) (mode_of state i) (omega (arith, h i))) (lt-leb 2 (tag_of state i) (omega arith)));
         }
 
     -- machine i is the first of n whose bytes do not fit
@@ -43,9 +40,9 @@ module _ {state counts : List ℕ} where
       unfolding bad_pair
       bad-mode k = bad-here (or_left _ (le-leb (mode_count m i) (mode_of state i) (omega (arith, h i))))
 
-      pub bad-tag : {t : ℕ} → t ≡ tag_of state i → leb 2 t ≡ true → i ≡ find (bad_pair m state) (up_to n) n
+      pub bad-tag : {t : ℕ} → t ≡ tag_of state i → 2 ≤ t → i ≡ find (bad_pair m state) (up_to n) n
       unfolding bad_pair
-      bad-tag f k = bad-here (or_right (leb (mode_count m i) (mode_of state i)) (ap (leb 2) (sym f) ∙ k))
+      bad-tag f k = bad-here (or_right (leb (mode_count m i) (mode_of state i)) (le-leb 2 (tag_of state i) (omega arith)))
 
   pub pairs_end : {n i : ℕ} → GoodPairs state counts i → n ≤ i → (m : Model) → CountsOf m counts
       → n ≡ find (bad_pair m state) (up_to n) n

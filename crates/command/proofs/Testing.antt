@@ -5,11 +5,10 @@ use Prim.Native.Nat.{ℕ}
 use mathlib.Core.Path.{◌≡◌, sym, ◌∙◌}
 use mathlib.Core.List.{List, ◌++◌, append_assoc}
 use mathlib.Core.Bool.{true, false}
+use Rattle.std.specs.Prelude.{Result, Err}
 use Rattle.common.specs.Reply.{Reply, given, refused, clear, unless}
 use Rattle.common.proofs.Clear.{unless-append-clear}
-use Rattle.sheet.specs.declared.refusal.Cause.{Cause}
-use Rattle.sheet.specs.declared.refusal.Verdict.{Verdict}
-use Rattle.sheet.specs.declared.refusal.Verdict.TheVariants.{Refused}
+use Rattle.sheet.specs.declared.refusal.Refusal.{Refusal}
 use Rattle.sheet.specs.Refusal.{number_of, verdict_says}
 use Rattle.sheet.specs.declared.index.Sheet.{Sheet}
 use Rattle.sheet.specs.Model.{Model}
@@ -32,13 +31,13 @@ module _ (m : Model) (plan state goal : List ℕ) {A : Type 0} (r : Reply A) whe
   refusals-are =
       rw (append_assoc (state_faults m state) (goal_faults m goal) (cover_faults m plan state (goal_masks m goal)))
 
-  pub state-refused : {v : Verdict} {cause : Cause} {place : ℕ} → verdict_says v ≡ unless (state_faults m state) (given tt)
-      → v ≡ Refused cause place → refused (number_of cause) place ≡ unless (goal_refusals m plan state goal) r
+  pub state-refused : {v : Result Unit Refusal} {why : Refusal} → verdict_says v ≡ unless (state_faults m state) (given tt)
+      → v ≡ Err why → refused (number_of why.cause) why.place ≡ unless (goal_refusals m plan state goal) r
   state-refused e a = sym (refusals-are ∙ refused-first (state_faults m state) e a _ r)
 
-  pub goal-refused : {v : Verdict} {cause : Cause} {place : ℕ} → clear (state_faults m state) ≡ true
-      → verdict_says v ≡ unless (goal_faults m goal) (given tt) → v ≡ Refused cause place
-      → refused (number_of cause) place ≡ unless (goal_refusals m plan state goal) r
+  pub goal-refused : {v : Result Unit Refusal} {why : Refusal} → clear (state_faults m state) ≡ true
+      → verdict_says v ≡ unless (goal_faults m goal) (given tt) → v ≡ Err why
+      → refused (number_of why.cause) why.place ≡ unless (goal_refusals m plan state goal) r
   goal-refused passes e a =
       sym (refusals-are ∙ unless-append-clear (state_faults m state) _ r passes
       ∙ refused-first (goal_faults m goal) e a _ r)

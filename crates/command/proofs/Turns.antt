@@ -4,11 +4,11 @@ use Prim.Native.Nat.{ℕ, ◌≤◌, min}
 use mathlib.Core.Path.{◌≡◌, refl, sym, ap, ◌∙◌}
 use mathlib.Core.List.{List}
 use native.Mathlib.Omega.{arith}
+use Rattle.std.specs.Prelude.{Option, Some, None, Result, Ok}
 use Rattle.common.specs.Reply.{Reply, given, refused, and_then}
 use Rattle.common.proofs.Reply.{and_then-given, given-clear, given_stays}
-use Rattle.sheet.specs.declared.index.Machine.{Machine}
 use Rattle.sheet.specs.declared.index.Move.{Move}
-use Rattle.sheet.specs.declared.refusal.Cause.{Cause}
+use Rattle.sheet.specs.declared.refusal.Refusal.{Refusal}
 use Rattle.sheet.specs.Parse.{parse}
 use Rattle.sheet.proofs.Parsed.{parse-valid}
 use Rattle.plan.specs.Groups.{groups_of}
@@ -19,13 +19,10 @@ use Rattle.plan.proofs.LengthLaws.{plan-length-is}
 use Rattle.plan.proofs.Limits.{no-large-plan}
 use Rattle.plan.proofs.NumbersUsed.{gapless-count}
 use Rattle.plan.proofs.Planning.{length-groups_of}
-use Rattle.command.specs.declared.method.Advice.{Advice}
-use Rattle.command.specs.declared.method.Advice.TheVariants.{Done, Send, Refused}
-use Rattle.command.specs.declared.acting.Change.{Change}
-use Rattle.command.specs.declared.acting.Change.TheVariants.{Changed, Unchanged, TurnedDown}
+use Rattle.command.specs.declared.method.Command.{Command}
 use Rattle.command.specs.Next.{next_reply}
 use Rattle.command.specs.Apply.{Applied, Effect, apply_reply, effect_reply, state_after}
-use Rattle.command.specs.Says.{advice_says, change_says}
+use Rattle.command.specs.Says.{advice_says, move_made, change_says}
 use Rattle.command.specs.Walk.{Turn, obeyed, obey_reply, turn_by, turn_reply, after_planning, walk_lines}
 use Rattle.command.specs.Walking.{plan_front, turn_told, turn_leaves, TurnsRight}
 use Rattle.command.proofs.Walks.{turn_is, obey-turn}
@@ -93,28 +90,19 @@ module _ (sheet state : List ℕ) (i c : ℕ) where
       go (refused number place) = refl
 
   -- `obey`: by what applying answers
-  pub obeyed-by : (r x : Change) {state' : List ℕ} → change_says r ≡ effect_reply (apply_reply sheet state i c) → r ≡ x
+  pub obeyed-by : (r x : Result (Option Move) Refusal) {state' : List ℕ} → change_says r ≡ effect_reply (apply_reply sheet state i c) → r ≡ x
       → state' ≡ state_after (apply_reply sheet state i c) state
       → (told_by i c (change_says x) ≡ turn_told (obey_reply sheet state i c)) × (state' ≡ turn_leaves (obey_reply sheet state i c) state)
   obeyed-by r x e a left = (ap (told_by i c) (ap change_says (sym a) ∙ e) ∙ sym told_is, left ∙ sym left_is)
 
+  -- what is told of a move that was made, or of none
+  pub made-told : (made : Option Move) → given (obeyed i c (move_made made)) ≡ told_by i c (change_says (Ok made))
+  made-told (Some move) = refl
+  made-told None = refl
+
 -- `turn`: by what next command answers
-pub turned_by : (sheet plan state goal : List ℕ) (r x : Advice) {told : Reply (Turn ℕ)} {left : List ℕ}
+pub turned_by : (sheet plan state goal : List ℕ) (r x : Result (Option Command) Refusal) {told : Reply (Turn ℕ)} {left : List ℕ}
     → advice_says r ≡ next_reply sheet plan state goal → r ≡ x
     → (told ≡ turn_told (and_then (advice_says x) (turn_by sheet state))) × (left ≡ turn_leaves (and_then (advice_says x) (turn_by sheet state)) state)
     → (told ≡ turn_told (turn_reply sheet plan state goal)) × (left ≡ turn_leaves (turn_reply sheet plan state goal) state)
 turned_by sheet plan state goal r x e a h = rw (turn_is sheet plan state goal (sym e ∙ ap advice_says a)) h
-
--- The cases that are left by two tests
-
-pub unchanged-left : (r : Change) → ((cause : Cause) (place : ℕ) → r ≡ TurnedDown cause place → ⊥)
-    → ((v : Move) → r ≡ Changed v → ⊥) → r ≡ Unchanged
-unchanged-left (Changed v) turned changed = absurd (changed v refl)
-unchanged-left Unchanged turned changed = refl
-unchanged-left (TurnedDown cause place) turned changed = absurd (turned cause place refl)
-
-pub done-left : (r : Advice) → ((cause : Cause) (place : ℕ) → r ≡ Refused cause place → ⊥)
-    → ((m : Machine) (byte : ℕ) → r ≡ Send m byte → ⊥) → r ≡ Done
-done-left Done turned sent = refl
-done-left (Send m byte) turned sent = absurd (sent m byte refl)
-done-left (Refused cause place) turned sent = absurd (turned cause place refl)

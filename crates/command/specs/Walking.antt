@@ -1,22 +1,18 @@
 -- The walk as the code makes it: planning into the front of a buffer, and one turn of obeying.
-use Rattle.std.specs.Prelude.{ℕ, suc, ◌+◌, ◌≤◌, min, ◌≡◌, List, [], ◌∷◌, length}
+use Rattle.std.specs.Prelude.{ℕ, suc, ◌+◌, ◌≤◌, min, ◌≡◌, List, [], ◌∷◌, length, Option, Some, None, Result, Ok, Err}
 use Rattle.common.specs.Reply.{Reply, given, refused, and_then}
 use Rattle.sheet.specs.Refusal.{number_of}
 use Rattle.sheet.specs.Parse.{parse}
 use Rattle.plan.specs.Planning.{length_reply, plan_reply}
-use Rattle.command.specs.declared.walking.Start.{Start}
-use Rattle.command.specs.declared.walking.Start.TheVariants.{Ready, Stopped}
-use Rattle.command.specs.declared.walking.Turned.{Turned}
-use Rattle.command.specs.declared.walking.Turned.TheVariants.{Done, Sent, Refused}
+use Rattle.sheet.specs.declared.refusal.Refusal.{Refusal}
+use Rattle.command.specs.declared.walking.Started.{Started}
+use Rattle.command.specs.declared.walking.Obeyed.{Obeyed}
 use Rattle.command.specs.Apply.{Applied}
+use Rattle.command.specs.Says.{move_made}
 use Rattle.command.specs.Walk.{Line, sent, finished, stopped, Turn, over, obeyed, turn_reply, obey}
 use Rattle.command.specs.Walk.{bound_written, after_planning, walk_lines}
 
 -- how long a plan is, and its bound
-pub record Started : Type 0 where
-  pub bytes : ℕ
-  pub bound : ℕ
-
 abbrev pub started : ℕ → ℕ → Started
 started bytes bound = record { bytes = bytes; bound = bound }
 
@@ -29,9 +25,9 @@ start_reply sheet (given plan) = given (started (length plan) (bound_written (pa
 start_reply sheet (refused number place) = refused number place
 
 -- what the code's answer says
-abbrev pub start_says : Start → Reply Started
-start_says (Ready bytes bound) = given (started bytes bound)
-start_says (Stopped cause place) = refused (number_of cause) place
+abbrev pub start_says : Result Started Refusal → Reply Started
+start_says (Ok s) = given s
+start_says (Err r) = refused (number_of r.cause) r.place
 
 -- what a turn tells: the machine, the command and the move; the state is in the lent bytes
 abbrev pub turn_told : Reply (Turn Applied) → Reply (Turn ℕ)
@@ -46,10 +42,10 @@ turn_leaves (given (obeyed i c a)) state = a.state
 turn_leaves (refused number place) state = state
 
 -- what the code's answer says
-abbrev pub turn_says : Turned → Reply (Turn ℕ)
-turn_says Done = given over
-turn_says (Sent machine byte move) = given (obeyed machine.0 byte move.0)
-turn_says (Refused cause place) = refused (number_of cause) place
+abbrev pub turn_says : Result (Option Obeyed) Refusal → Reply (Turn ℕ)
+turn_says (Ok None) = given over
+turn_says (Ok (Some o)) = given (obeyed o.command.machine.0 o.command.byte (move_made o.made))
+turn_says (Err r) = refused (number_of r.cause) r.place
 
 -- the line of a turn, and those that come later if it sends a command
 abbrev pub lines_by : Reply (Turn ℕ) → ℕ → ℕ → List Line → List Line

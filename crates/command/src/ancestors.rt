@@ -8,7 +8,6 @@ ghost use Rattle.plan.specs.Reading.{groups_in, well_shaped};
 ghost use Rattle.command.specs.Kept.Question.{NamedBy, UpstreamSet, UpstreamOfSome, MarkedFrom};
 
 use plan::sizing::Group;
-use sheet::record::wide;
 
 // Goes on with the marks of a pass down the group numbers that has come to `top`: what a marked group or one of some groups names is
 // marked. A group names lower ones alone, so once the pass has been at a number, the marks from there up are final. `all` in the contract is
@@ -20,13 +19,10 @@ fn pass(named: &[u64], groups: u64, marks: u64, top: usize) -> u64
         → MarkedFrom m plan counts all top marks → MarkedFrom m plan counts all 0 result }
 {
     let mut r = marks;
-    let mut left = top;
-    while 0 < left {
-        let j = left - 1;
+    for j in (0..top).rev() {
         if sets::has(sets::join(r, groups), j) {
             r = sets::join(r, named[j]);
         }
-        left -= 1;
     }
     r
 }
@@ -37,7 +33,7 @@ pub fn upstream(named: &[u64], group: Group) -> u64
     ensures { (m : Model) (plan : List ℕ) (counts : ℕ → Bool) → Valid m → well_shaped m plan ≡ true
         → group.0 < group_count (groups_in m plan) → NamedBy m plan counts named.now → UpstreamSet m plan counts group.0 result }
 {
-    let k = wide(group.0);
+    let k = usize::from(group.0);
     pass(named, 0, named[k], k)
 }
 

@@ -8,7 +8,6 @@ use crate::state::{mode_at, tag_at};
 use plan::sizing::group_of;
 use sheet::bits::has_mode;
 use sheet::index::Machine;
-use sheet::record::wide;
 
 // The groups that are not live: a machine of theirs is in a mode that is out of order, or tagged.
 pub fn failed(state: &[u8], live: &[u8], numbers: &[u8]) -> u64
@@ -17,15 +16,11 @@ pub fn failed(state: &[u8], live: &[u8], numbers: &[u8]) -> u64
         → live.now ≡ pad 32 m.live → FailedSet m plan state.now result }
 {
     let mut r: u64 = 0;
-    let mut i: u8 = 0;
-    while wide(i) < numbers.len() {
-        let m = Machine(i);
-        let group = group_of(numbers, m);
-        let k = wide(group.0);
-        let at = wide(i);
-        r = sets::put_if(r, k, !has_mode(live[at], mode_at(state, m)));
+    for i in 0..numbers.len() {
+        let m = Machine(i as u8);
+        let k = usize::from(group_of(numbers, m).0);
+        r = sets::put_if(r, k, !has_mode(live[i], mode_at(state, m)));
         r = sets::put_if(r, k, tag_at(state, m) != 0);
-        i += 1;
     }
     r
 }

@@ -8,102 +8,79 @@ ghost use Rattle.command.specs.Next.{fulfil, follow_by, prepare_by};
 ghost use Rattle.command.specs.Kept.Question.{Kept, Listed, AllowedSet, OnlyOutside};
 ghost use Rattle.command.specs.Says.{advice_says};
 
-use crate::fitting::{from_now, held_up, toward, usable};
-use crate::query::{numbers, size_of, weights};
+use crate::fitting::{from_now, held_up};
+use crate::query::Question;
 use plan::sizing::Group;
-use plan::standing::meeting;
-use sheet::index::{Machine, move_body};
-use sheet::record::wide;
-use sheet::refusal::Cause;
+use sheet::index::Machine;
+use sheet::refusal::{Cause, Refusal};
 
-// What is to be done next: nothing, a command, or the refusal.
+// A command: the machine, and the byte that is sent to it.
 #[derive(Clone, Copy)]
-pub enum Advice {
-    Done,
-    // The machine and the command byte.
-    Send(Machine, u8),
-    // The cause and its place.
-    Refused(Cause, usize),
+pub struct Command {
+    pub machine: Machine,
+    pub byte: u8,
 }
+
+// What is to be done next: a command, or nothing where all is done; or the refusal.
+pub type Advice = Result<Option<Command>, Refusal>;
 
 // Prepares a move, by its body, by the groups on which a need of it fails, all of them outside its own: sends it if there is
 // none, else fulfils what it needs, on the highest of them.
 #[cycle(fulfil_prepare)]
-pub fn prepare(
-    file: &[u8],
-    places: &[u16],
-    plan: &[u8],
-    starts: &[u32],
-    state: &[u8],
-    facts: &[u8],
-    zeros: &[u64],
-    b: &[u8],
-    waits: u64,
-) -> Advice
-    requires { ((m : Model) × Kept m plan.now state.now facts.now zeros.now starts.now × Listed m file.now places.now
-        × (v : ℕ) × (v < move_count m) × (move_of b.now ≡ move_at m v)
-        × OnlyOutside (groups_in m plan.now) state.now (move_at m v) waits) × (3 < length b.now) }
-    ensures { (m : Model) (v : ℕ) → Kept m plan.now state.now facts.now zeros.now starts.now
-        → Listed m file.now places.now → v < move_count m → move_of b.now ≡ move_at m v
-        → OnlyOutside (groups_in m plan.now) state.now (move_at m v) waits
-        → advice_says result ≡ prepare_by m plan.now state.now
-        (λ needs. fulfil m plan.now state.now needs
-        (group_of (groups_in m plan.now) (move_at m v).machine))
-        (group_of (groups_in m plan.now) (move_at m v).machine) (move_at m v) }
+pub fn prepare(question: &Question, b: &[u8], waits: u64) -> Advice
+    requires { ((m : Model)
+        × Kept m question.now.plan.now question.now.state.now question.now.facts.now question.now.zeros.now question.now.starts.now
+        × Listed m question.now.moves.file.now question.now.moves.places.now × (v : ℕ) × (v < move_count m) × (move_of b.now ≡ move_at m v)
+        × OnlyOutside (groups_in m question.now.plan.now) question.now.state.now (move_at m v) waits) × (3 < length b.now) }
+    ensures { (m : Model) (v : ℕ)
+        → Kept m question.now.plan.now question.now.state.now question.now.facts.now question.now.zeros.now question.now.starts.now
+        → Listed m question.now.moves.file.now question.now.moves.places.now → v < move_count m → move_of b.now ≡ move_at m v
+        → OnlyOutside (groups_in m question.now.plan.now) question.now.state.now (move_at m v) waits
+        → advice_says result ≡ prepare_by m question.now.plan.now question.now.state.now
+        (λ needs. fulfil m question.now.plan.now question.now.state.now needs
+        (group_of (groups_in m question.now.plan.now) (move_at m v).machine))
+        (group_of (groups_in m question.now.plan.now) (move_at m v).machine) (move_at m v) }
 {
     if waits == 0 {
-        return Advice::Send(Machine(b[0]), b[3]);
+        return Ok(Some(Command {
+            machine: Machine(b[0]),
+            byte: b[3],
+        }));
     }
     let k = sets::highest(waits);
     let group = Group(k as u8);
-    let wanted = meeting(
-        b,
-        numbers(facts, state),
-        weights(facts),
-        zeros,
-        group,
-        sets::first(size_of(facts, group)),
-    );
-    fulfil(
-        file, places, plan, starts, state, facts, zeros, group, wanted,
-    )
+    let modes = sets::first(question.size_of(group));
+    let wanted = question.digits().meeting(b, group, modes);
+    fulfil(question, group, wanted)
 }
 
 // Fulfils a goal on its highest unmet group, by the modes of it that are allowed: follows its entry toward the nearest.
 #[cycle(fulfil_prepare)]
-pub fn fulfil(
-    file: &[u8],
-    places: &[u16],
-    plan: &[u8],
-    starts: &[u32],
-    state: &[u8],
-    facts: &[u8],
-    zeros: &[u64],
-    group: Group,
-    allowed: u64,
-) -> Advice
-    requires { (m : Model) × (goal : Masks) × Kept m plan.now state.now facts.now zeros.now starts.now × Listed m file.now places.now
-        × (group.0 < group_count (groups_in m plan.now)) × AllowedSet m plan.now goal group.0 allowed }
+pub fn fulfil(question: &Question, group: Group, allowed: u64) -> Advice
+    requires { (m : Model) × (goal : Masks)
+        × Kept m question.now.plan.now question.now.state.now question.now.facts.now question.now.zeros.now question.now.starts.now
+        × Listed m question.now.moves.file.now question.now.moves.places.now
+        × (group.0 < group_count (groups_in m question.now.plan.now)) × AllowedSet m question.now.plan.now goal group.0 allowed }
     ensures { (m : Model) (goal : Masks)
-        → Kept m plan.now state.now facts.now zeros.now starts.now
-        → Listed m file.now places.now → group.0 < group_count (groups_in m plan.now)
-        → AllowedSet m plan.now goal group.0 allowed
-        → advice_says result ≡ follow_by m plan.now state.now
-        (λ needs. fulfil m plan.now state.now needs group.0) goal group.0 }
+        → Kept m question.now.plan.now question.now.state.now question.now.facts.now question.now.zeros.now question.now.starts.now
+        → Listed m question.now.moves.file.now question.now.moves.places.now → group.0 < group_count (groups_in m question.now.plan.now)
+        → AllowedSet m question.now.plan.now goal group.0 allowed
+        → advice_says result ≡ follow_by m question.now.plan.now question.now.state.now
+        (λ needs. fulfil m question.now.plan.now question.now.state.now needs group.0) goal group.0 }
 {
-    let cell = toward(plan, starts, facts, group, allowed);
-    let v = wide(cell.first);
-    if cell.distance == 255 || places.len() <= v {
-        return Advice::Refused(Cause::BadPlan, 0);
+    let cell = question.toward(group, allowed);
+    let v = usize::from(cell.first);
+    if cell.distance == 255 || question.moves.len() <= v {
+        return Err(Cause::BadPlan.at(0));
     }
-    let b = move_body(file, places, v);
-    let own = numbers(facts, state);
-    let held = held_up(b, state, own);
-    if !from_now(b, state, own, group) || sets::has(held, wide(group.0)) {
-        return Advice::Refused(Cause::BadPlan, 0);
+    let b = question.moves.body(v);
+    let own = question.numbers();
+    let held = held_up(b, question.state, own);
+    if !from_now(b, question.state, own, group) || sets::has(held, usize::from(group.0)) {
+        return Err(Cause::BadPlan.at(0));
     }
-    if !usable(b, plan, starts, facts, own, zeros) {
-        return Advice::Refused(Cause::BadPlan, 0);
+    if !question.usable(b) {
+        return Err(Cause::BadPlan.at(0));
     }
-    prepare(file, places, plan, starts, state, facts, zeros, b, held)
+    prepare(question, b, held)
 }

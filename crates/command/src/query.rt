@@ -1,11 +1,18 @@
-// The facts of a question, in one array of bytes that is lent on: a struct would be copied at each call.
+// A question: what to do in a state, under a plan. The facts of its machines and groups are in one array of bytes.
 ghost use Rattle.std.specs.Prelude.{◌≡◌, ℕ, ◌≤◌, ◌<◌, length, get_or};
-ghost use Rattle.command.specs.Kept.Question.{machines_in, numbers_in, weights_in, sizes_in, size_in, present_in};
+ghost use Rattle.sheet.specs.Model.{Model};
+ghost use Rattle.plan.specs.Groups.{group_count};
+ghost use Rattle.plan.specs.Reading.{groups_in, table_of_group};
+ghost use Rattle.plan.specs.Kept.Showing.{Shows};
+ghost use Rattle.command.specs.Kept.Question.{machines_in, numbers_in, weights_in, sizes_in, size_in, present_in, Kept};
 
 use crate::state::machines_in;
+use plan::lookup::table;
+use plan::showing::Shown;
 use plan::sizing::Group;
-use sheet::index::Sheet;
-use sheet::record::wide;
+use plan::standing::Digits;
+use sheet::index::{Moves, Sheet};
+use sheet::writing::put_bytes;
 
 // Each machine's group and weight, each group's size and present mode: 32 bytes each.
 pub fn gathered(
@@ -22,54 +29,110 @@ pub fn gathered(
         × ((k : ℕ) → k < 32 → present_in result k ≡ get_or present.now k 0) }
 {
     let mut r = [0u8; 4 * Sheet::MACHINES];
-    let mut i: usize = 0;
-    while i < 32 {
-        r[i] = numbers[i];
-        r[32 + i] = weights[i];
-        r[64 + i] = sizes[i];
-        r[96 + i] = present[i];
-        i += 1;
-    }
+    put_bytes(&mut r[..], 0, numbers);
+    put_bytes(&mut r[..], 32, weights);
+    put_bytes(&mut r[..], 64, sizes);
+    put_bytes(&mut r[..], 96, present);
     r
 }
 
-// The groups of the machines that a state is for.
-pub fn numbers<'a>(facts: &'a [u8], state: &[u8]) -> &'a [u8]
-    requires { (length facts.now ≡ 128) × (machines_in state.now ≤ 32) }
-    ensures { result.now ≡ numbers_in facts.now (machines_in state.now) }
-{
-    let n = machines_in(state);
-    &facts[..n]
+// A question about a state, under a plan.
+#[derive(Clone, Copy)]
+pub struct Question<'a> {
+    pub moves: Moves<'a>,
+    pub plan: &'a [u8],
+    // Where the record of each group's table begins.
+    pub starts: &'a [u32],
+    pub state: &'a [u8],
+    // Each machine's group and weight, each group's size and present mode.
+    pub facts: &'a [u8],
+    // Where each machine stands in mode 0; behind the sets of 32 machines are the live modes of each group.
+    pub zeros: &'a [u64],
 }
 
-// What a mode of each machine weighs in its group's mode.
-pub fn weights(facts: &[u8]) -> &[u8]
-    requires { length facts.now ≡ 128 }
-    ensures { result.now ≡ weights_in facts.now }
-{
-    &facts[32..64]
-}
+impl<'a> Question<'a> {
+    // The groups of the machines that the state is for.
+    pub fn numbers(&self) -> &'a [u8]
+        requires { (length self.now.facts.now ≡ 128) × (machines_in self.now.state.now ≤ 32) }
+        ensures { result.now ≡ numbers_in self.now.facts.now (machines_in self.now.state.now) }
+    {
+        let n = machines_in(self.state);
+        &self.facts[..n]
+    }
 
-// How many modes each group has.
-pub fn sizes(facts: &[u8]) -> &[u8]
-    requires { length facts.now ≡ 128 }
-    ensures { result.now ≡ sizes_in facts.now }
-{
-    &facts[64..96]
-}
+    // What a mode of each machine weighs in its group's mode.
+    pub fn weights(&self) -> &'a [u8]
+        requires { length self.now.facts.now ≡ 128 }
+        ensures { result.now ≡ weights_in self.now.facts.now }
+    {
+        &self.facts[32..64]
+    }
 
-// How many modes a group has.
-pub fn size_of(facts: &[u8], group: Group) -> usize
-    requires { (length facts.now ≡ 128) × (group.0 < 32) }
-    ensures { (result ≡ size_in facts.now group.0) × (result < 256) }
-{
-    wide(facts[64 + wide(group.0)])
-}
+    // How many modes each group has.
+    pub fn sizes(&self) -> &'a [u8]
+        requires { length self.now.facts.now ≡ 128 }
+        ensures { result.now ≡ sizes_in self.now.facts.now }
+    {
+        &self.facts[64..96]
+    }
 
-// The mode that a group is in.
-pub fn mode_now(facts: &[u8], group: Group) -> usize
-    requires { (length facts.now ≡ 128) × (group.0 < 32) }
-    ensures { (result ≡ present_in facts.now group.0) × (result < 256) }
-{
-    wide(facts[96 + wide(group.0)])
+    // How many modes a group has.
+    pub fn size_of(&self, group: Group) -> usize
+        requires { (length self.now.facts.now ≡ 128) × (group.0 < 32) }
+        ensures { (result ≡ size_in self.now.facts.now group.0) × (result < 256) }
+    {
+        usize::from(self.facts[64 + usize::from(group.0)])
+    }
+
+    // The mode that a group is in.
+    pub fn mode_now(&self, group: Group) -> usize
+        requires { (length self.now.facts.now ≡ 128) × (group.0 < 32) }
+        ensures { (result ≡ present_in self.now.facts.now group.0) × (result < 256) }
+    {
+        usize::from(self.facts[96 + usize::from(group.0)])
+    }
+
+    // Its machines, as digits of the modes of their groups.
+    pub fn digits(&self) -> Digits<'a>
+        requires { (length self.now.facts.now ≡ 128) × (machines_in self.now.state.now ≤ 32) }
+        ensures { (result.numbers.now ≡ numbers_in self.now.facts.now (machines_in self.now.state.now))
+            × (result.weights.now ≡ weights_in self.now.facts.now) × (result.zeros.now ≡ self.now.zeros.now) }
+    {
+        Digits {
+            numbers: self.numbers(),
+            weights: self.weights(),
+            zeros: self.zeros,
+        }
+    }
+
+    // Its plan, shown, with what is kept of the groups.
+    pub fn shown(&self) -> Shown<'a>
+        requires { (m : Model)
+            × Kept m self.now.plan.now self.now.state.now self.now.facts.now self.now.zeros.now self.now.starts.now }
+        ensures { (result.plan.now ≡ self.now.plan.now) × ((m : Model)
+            → Kept m self.now.plan.now self.now.state.now self.now.facts.now self.now.zeros.now self.now.starts.now
+            → Shows m result.plan.now result.digits.numbers.now result.digits.weights.now result.sizes.now
+            result.starts.now result.digits.zeros.now) }
+    {
+        Shown {
+            plan: self.plan,
+            starts: self.starts,
+            sizes: self.sizes(),
+            digits: self.digits(),
+        }
+    }
+
+    // The table of a group.
+    pub fn table_of(&self, group: Group) -> &'a [u8]
+        requires { (m : Model)
+            × Kept m self.now.plan.now self.now.state.now self.now.facts.now self.now.zeros.now self.now.starts.now
+            × (group.0 < group_count (groups_in m self.now.plan.now)) }
+        ensures { (m : Model)
+            → Kept m self.now.plan.now self.now.state.now self.now.facts.now self.now.zeros.now self.now.starts.now
+            → group.0 < group_count (groups_in m self.now.plan.now)
+            → result.now ≡ table_of_group m (groups_in m self.now.plan.now) self.now.plan.now group.0 }
+    {
+        let start = self.starts[usize::from(group.0)] as usize;
+        table(self.plan, start, self.size_of(group))
+    }
 }

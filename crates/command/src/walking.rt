@@ -5,45 +5,39 @@ ghost use Rattle.plan.specs.Planning.{length_reply, plan_reply, scratch_after};
 ghost use Rattle.command.specs.Walk.{obey_reply, turn_reply};
 ghost use Rattle.command.specs.Walking.{plan_front, start_reply, start_says, turn_told, turn_leaves, turn_says};
 
-use crate::acting::{Change, apply};
+use crate::acting::apply;
 use crate::advising::next;
-use crate::method::Advice;
-use plan::making::{Planned, plan};
+use crate::method::Command;
+use plan::making::plan;
 use plan::measure::plan_length;
 use plan::reading::bound;
-use sheet::index::{Machine, Move};
-use sheet::refusal::{Cause, Length};
+use sheet::index::Move;
+use sheet::refusal::Refusal;
 
-// How long the plan is and its bound, or the refusal.
+// How long the plan is, and its bound.
 #[derive(Clone, Copy)]
-pub enum Start {
-    Ready(usize, u64),
-    // The cause and its place.
-    Stopped(Cause, usize),
+pub struct Started {
+    pub bytes: usize,
+    pub bound: u64,
 }
 
-// What a turn came to.
+// A command that was obeyed, and the move that it was, if a machine changed.
 #[derive(Clone, Copy)]
-pub enum Turned {
-    Done,
-    // The machine, the command byte, and the move that it was, 255 for none.
-    Sent(Machine, u8, Move),
-    // The cause and its place.
-    Refused(Cause, usize),
+pub struct Obeyed {
+    pub command: Command,
+    pub made: Option<Move>,
 }
 
-// The smaller of two lengths.
-fn smaller(a: usize, b: usize) -> usize
-    ensures { result ≡ min a b }
-{
-    if b < a {
-        return b;
-    }
-    a
-}
+// What a turn came to: a command that was obeyed, or nothing where all is done; or the refusal.
+pub type Turned = Result<Option<Obeyed>, Refusal>;
 
 // Plans into the front of a buffer, for a plan of so many bytes.
-fn begin_with(file: &[u8], bytes: usize, buffer: &mut [u8], scratch: &mut [u8]) -> Start
+fn begin_with(
+    file: &[u8],
+    bytes: usize,
+    buffer: &mut [u8],
+    scratch: &mut [u8],
+) -> Result<Started, Refusal>
     requires { length_reply file.now ≡ given bytes }
     ensures reply { start_says result ≡ start_reply file.now
         (plan_reply file.now (min bytes (length buffer.old)) (length scratch.old)) }
@@ -54,16 +48,16 @@ fn begin_with(file: &[u8], bytes: usize, buffer: &mut [u8], scratch: &mut [u8]) 
         (plan_reply file.now (min bytes (length buffer.old)) (length scratch.old))
         scratch.old }
 {
-    let n = smaller(bytes, buffer.len());
-    let planned = plan(file, &mut buffer[..n], scratch);
-    let Planned::Refused(cause, place) = planned else {
-        return Start::Ready(n, bound(&buffer[..n], n - 12));
-    };
-    Start::Stopped(cause, place)
+    let n = bytes.min(buffer.len());
+    plan(file, &mut buffer[..n], scratch)?;
+    Ok(Started {
+        bytes: n,
+        bound: bound(&buffer[..n], n - 12),
+    })
 }
 
 // Plans a sheet into the front of a buffer.
-pub fn begin(file: &[u8], buffer: &mut [u8], scratch: &mut [u8]) -> Start
+pub fn begin(file: &[u8], buffer: &mut [u8], scratch: &mut [u8]) -> Result<Started, Refusal>
     ensures reply { start_says result ≡ start_reply file.now
         (plan_front file.now (length buffer.old) (length scratch.old)) }
     ensures written { buffer.new ≡ output_after
@@ -71,27 +65,18 @@ pub fn begin(file: &[u8], buffer: &mut [u8], scratch: &mut [u8]) -> Start
     ensures left { scratch.new ≡ scratch_after
         (plan_front file.now (length buffer.old) (length scratch.old)) scratch.old }
 {
-    let length = plan_length(file);
-    match length {
-        Length::Refused(cause, place) => Start::Stopped(cause, place),
-        Length::Bytes(bytes) => begin_with(file, bytes, buffer, scratch),
-    }
+    let bytes = plan_length(file)?;
+    begin_with(file, bytes, buffer, scratch)
 }
 
 // Obeys a command.
-fn obey(file: &[u8], state: &mut [u8], m: Machine, byte: u8) -> Turned
-    ensures reply { turn_says result ≡ turn_told (obey_reply file.now state.old m.0 byte) }
+fn obey(file: &[u8], state: &mut [u8], command: Command) -> Turned
+    ensures reply { turn_says result ≡ turn_told (obey_reply file.now state.old command.machine.0 command.byte) }
     ensures left { state.new
-        ≡ turn_leaves (obey_reply file.now state.old m.0 byte) state.old }
+        ≡ turn_leaves (obey_reply file.now state.old command.machine.0 command.byte) state.old }
 {
-    let change = apply(file, state, m, byte);
-    let Change::TurnedDown(cause, place) = change else {
-        let Change::Changed(v) = change else {
-            return Turned::Sent(m, byte, Move(255));
-        };
-        return Turned::Sent(m, byte, v);
-    };
-    Turned::Refused(cause, place)
+    let made = apply(file, state, command.machine, command.byte)?;
+    Ok(Some(Obeyed { command, made }))
 }
 
 // One turn: asks for the next command, and obeys it.
@@ -101,12 +86,8 @@ pub fn turn(file: &[u8], plan: &[u8], state: &mut [u8], goal: &[u8]) -> Turned
     ensures left { state.new ≡ turn_leaves
         (turn_reply file.now plan.now state.old goal.now) state.old }
 {
-    let advice = next(file, plan, &state[..], goal);
-    let Advice::Refused(cause, place) = advice else {
-        let Advice::Send(m, byte) = advice else {
-            return Turned::Done;
-        };
-        return obey(file, state, m, byte);
+    let Some(command) = next(file, plan, &state[..], goal)? else {
+        return Ok(None);
     };
-    Turned::Refused(cause, place)
+    obey(file, state, command)
 }

@@ -72,7 +72,7 @@ number-full (b ∷ text) =
 
 -- a digit more than there is room for
 pub read-too-large : (n b : ℕ) (text more : List ℕ) → n < 65536 → is_digit b ≡ true → 65535 < 10 * n + (b - 48)
-    → text ≡ decimal n ++ b ∷ more → 65536 ≡ read_number text
+    → text ≡ decimal n ++ b ∷ more → read_number text ≡ 65536
 unfolding read_number leading_number decimal number_after
 read-too-large n b text more h t l e =
     let most : min (10 * n + (b - 48)) 65536 ≡ 65536 = omega arith in

@@ -49,20 +49,20 @@ module _ (text : List ℕ) (at : ℕ) where
       ∙ get_or-append (decimal n) rest 0 0 (some-digit n)
 
   -- where no number is written none is read
-  none : ((n : ℕ) → n < 65536 → Begins n (drop at text) → ⊥) → 65536 ≡ read_number (drop at text)
+  none : ((n : ℕ) → n < 65536 → Begins n (drop at text) → ⊥) → read_number (drop at text) ≡ 65536
   none other =
       let n = read_number (drop at text) in
       by_cases (ltb n 65536)
       (λ t. let l = ltb-true n 65536 t in absurd (other n l (read-begins (drop at text) l)))
       (λ f. omega (arith, ltb-false n 65536 f, read-at-most (drop at text)))
 
-  pub none_read : is_digit (get_or text at 0) ≡ false → 65536 ≡ read_number (drop at text)
+  pub none_read : is_digit (get_or text at 0) ≡ false → read_number (drop at text) ≡ 65536
   none_read f =
       none (λ n l b.
       true-false (ap is_digit (first_of n b) ∙ all-at is_digit (decimal-digits n) (mem-get_or (decimal n) 0 0 (some-digit n))) f)
 
   -- no number has a digit behind a 0
-  pub zero-read : get_or text at 0 ≡ 48 → is_digit (get_or text (at + 1) 0) ≡ true → 65536 ≡ read_number (drop at text)
+  pub zero-read : get_or text at 0 ≡ 48 → is_digit (get_or text (at + 1) 0) ≡ true → read_number (drop at text) ≡ 65536
   unfolding digit
   zero-read z t =
       none (λ n l b.
@@ -91,18 +91,20 @@ module _ {text : List ℕ} {at : ℕ} where
       }
 
   module _ {n i : ℕ} (u : ReadUpto text at n i) where
-    pub read-end : is_digit (get_or text i 0) ≡ false → n ≡ read_number (drop at text)
+    pub read-end : is_digit (get_or text i 0) ≡ false → (n < 65536) × (n ≡ read_number (drop at text))
     read-end f =
         let first : get_or (drop i text) 0 0 ≡ get_or text i 0 =
-        get_or-drop i text 0 0 ∙ ap (λ j. get_or text j 0) (omega arith) in
-        sym (read-written n (drop at text) (drop i text) u.small u.stands
-        (no-digit-from (drop i text) (ap is_digit first ∙ f)))
+        get_or-drop i text 0 0 ∙ ap (λ j. get_or text j 0) (omega arith) in (
+          u.small,
+          sym (read-written n (drop at text) (drop i text) u.small u.stands
+              (no-digit-from (drop i text) (ap is_digit first ∙ f))),
+        )
 
     module _ (t : is_digit (get_or text i 0) ≡ true) where
       goes_on : drop at text ≡ decimal n ++ get_or text i 0 ∷ drop (suc i) text
       goes_on = u.stands ∙ ap (λ rest. decimal n ++ rest) (drop-cons text i 0 (digit-inside text i t))
 
-      pub read-over : 65535 < 10 * n + (get_or text i 0 - 48) → 65536 ≡ read_number (drop at text)
+      pub read-over : 65535 < 10 * n + (get_or text i 0 - 48) → read_number (drop at text) ≡ 65536
       read-over l = read-too-large n (get_or text i 0) (drop at text) (drop (suc i) text) u.small t l goes_on
 
       pub read_next : 10 * n + (get_or text i 0 - 48) ≤ 65535 → ReadUpto text at (10 * n + (get_or text i 0 - 48)) (i + 1)

@@ -8,10 +8,9 @@ ghost use Rattle.std.specs.Prelude.{◌≡◌, true, ◌+◌, ◌-◌, ◌%◌, 
 ghost use Rattle.sheet.specs.Kept.Written.{written};
 ghost use Rattle.decimal.specs.Decimal.{digit, digits, decimal, is_digit};
 ghost use Rattle.decimal.specs.Decimal.{starts_with, read_number};
-ghost use Rattle.decimal.specs.Kept.Digits.{Starts};
+ghost use Rattle.decimal.specs.Kept.Digits.{Starts, ReadAs};
 
 use crate::text::has;
-use sheet::record::wide;
 
 // Writes the last digit of a number at a place, and gives the place behind it.
 fn put_digit(out: &mut [u8], at: usize, n: usize) -> usize
@@ -97,36 +96,37 @@ fn value_at(text: &[u8], at: usize) -> usize
     requires { is_digit (get_or text.now at 0) ≡ true }
     ensures { (result ≡ get_or text.now at 0 - 48) × (result < 10) }
 {
-    wide(text[at]) - 48
+    usize::from(text[at]) - 48
 }
 
 // The number that goes on behind its first digit, at a place of a text.
-fn read_on(text: &[u8], at: usize, first: usize) -> usize
+fn read_on(text: &[u8], at: usize, first: usize) -> Option<usize>
     requires { Starts text.now at first }
-    ensures { result ≡ read_number (drop at text.now) }
+    ensures { ReadAs (read_number (drop at text.now)) result }
 {
     let mut n = first;
     let mut i = at + 1;
+    // Not a `for`: it ends where the digits do.
     while digit_at(text, i) {
         n = 10 * n + value_at(text, i);
         if 65535 < n {
-            return 65536;
+            return None;
         }
         i += 1;
     }
-    n
+    Some(n)
 }
 
-// The number below 65,536 that is written at a place of a text, 65,536 where none is.
-pub fn read(text: &[u8], at: usize) -> usize
-    ensures { result ≡ read_number (drop at text.now) }
+// The number below 65,536 that is written at a place of a text, if one is.
+pub fn read(text: &[u8], at: usize) -> Option<usize>
+    ensures { ReadAs (read_number (drop at text.now)) result }
 {
     if !digit_at(text, at) {
-        return 65536;
+        return None;
     }
     let first = value_at(text, at);
     if first == 0 && digit_at(text, at + 1) {
-        return 65536;
+        return None;
     }
     read_on(text, at, first)
 }

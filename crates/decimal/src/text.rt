@@ -1,5 +1,5 @@
 // Bytes compared with a text at a place.
-ghost use Rattle.std.specs.Prelude.{◌≡◌, ◌&&◌, ◌≤◌, ◌<◌, eqb, length, get_or, drop};
+ghost use Rattle.std.specs.Prelude.{◌≡◌, ◌≤◌, ◌<◌, eqb, length, get_or, drop};
 ghost use Rattle.decimal.specs.Decimal.{starts_with};
 
 // The byte stands at a place of a text.
@@ -8,13 +8,6 @@ pub fn has(text: &[u8], at: usize, b: u8) -> bool
     ensures { result ≡ eqb (get_or text.now at 0) b }
 {
     at < text.len() && text[at] == b
-}
-
-// Both are true.
-fn both(a: bool, b: bool) -> bool
-    ensures { result ≡ (a && b) }
-{
-    a && b
 }
 
 // The bytes stand at a place of a text. They are compared without a way out, so that many go at once.
@@ -26,10 +19,8 @@ pub fn stands(text: &[u8], at: usize, bytes: &[u8]) -> bool
         return false;
     }
     let mut same = true;
-    let mut i: usize = 0;
-    while i < bytes.len() {
-        same = both(same, text[at + i] == bytes[i]);
-        i += 1;
+    for (i, b) in bytes.iter().enumerate() {
+        same &= text[at + i] == *b;
     }
     same
 }

@@ -1,20 +1,18 @@
 // Prints the picture of the sheet in sheet.bin for Graphviz, or the sheet's refusal.
 #![tactic(auto)]
 
-use printer::{load, refusal_in_words, text, within};
-use sheet::refusal::Length;
+use printer::{load, refusal_in_words, within};
 use std::io;
 
 // The picture of the sheet that a file is. No text is longer than the buffer.
 fn print_graph(rt: &impl Print, file: &[u8]) -> io::Result<()> {
     let mut buffer = [0u8; 7273];
-    let drawn = picture::graph::draw(file, &mut buffer);
-    match drawn {
-        Length::Bytes(bytes) => {
+    match picture::graph::draw(file, &mut buffer) {
+        Ok(bytes) => {
             let n = within(bytes, &buffer);
-            text(rt, &buffer[..n])
+            rt.write_all(&buffer[..n])
         }
-        Length::Refused(cause, place) => refusal_in_words(rt, cause, place),
+        Err(refusal) => refusal_in_words(rt, refusal),
     }
 }
 

@@ -3,11 +3,9 @@
 use Prim.Native.Nat.{ℕ, zero, suc, ◌+◌, ◌≤◌, ◌<◌, zero-le}
 use mathlib.Core.Path.{◌≡◌, refl, sym, ap, ◌∙◌}
 use mathlib.Core.List.{List, [], ◌∷◌}
-use native.Mathlib.Nat.{le_antisymm}
 use native.Mathlib.Numerals.{add-one}
 use native.Mathlib.Omega.{arith}
 use lib.ListN.{length, get_or, set, take, length-set}
-use lib.Seq.{take-length}
 use Rattle.sets.specs.Kept.Sets.{both}
 use Rattle.joining.specs.Kept.Lent.{narrowed}
 
@@ -44,9 +42,3 @@ module _ {masks goal : List ℕ} where
         size = length-set now _ _ ∙ n.size;
         left = rw (n.left, add-one) (narrowed-suc masks goal i l room);
       }
-
-  pub narrowed-upto-end : {i : ℕ} {now : List ℕ} → NarrowedUpto masks goal i now → length goal ≤ i
-      → now ≡ narrowed masks goal
-  narrowed-upto-end {i} n l =
-      let e : i ≡ length goal = le_antisymm n.inside l in
-      n.left ∙ rw (e, take-length goal)

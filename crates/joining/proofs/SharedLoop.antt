@@ -1,10 +1,10 @@
 -- The loop that narrows 32 masks by each of the lent goals. Assumes nothing.
-use Prim.Native.Nat.{ℕ, ◌+◌, ◌≤◌, ◌<◌}
+use Prim.Native.Nat.{ℕ, ◌≤◌, ◌<◌}
 use mathlib.Core.Path.{◌≡◌, refl, ◌∙◌}
-use mathlib.Core.List.{List, Memᴰ}
+use mathlib.Core.List.{List, [], Memᴰ}
 use lib.ListN.{length, get_or, replicate}
-use Rattle.sheet.specs.Record.{byte, part}
 use Rattle.joining.specs.Join.{Goals, shared_modes}
+use Rattle.joining.specs.Kept.Coming.{Front}
 use Rattle.joining.specs.Kept.Lent.{SplitsShort, narrowed, narrowed_by}
 use Rattle.joining.proofs.Splitting.{ReadTo, read_none, read_first, read_next, read-end}
 use Rattle.joining.proofs.Narrowing.{narrowed-shared}
@@ -16,30 +16,30 @@ pub record Narrowed (masks : List ℕ) (every rest : Goals) : Type 0 where
   pub left : narrowed_by rest masks ≡ narrowed_by every (replicate 32 255)
 
 module _ {lent : List ℕ} where
-  pub shared-none : (every : Goals) → SplitsShort lent every → ReadTo lent 0 (Narrowed (replicate 32 255))
+  pub shared-none : (every : Goals) → SplitsShort lent every → ReadTo lent lent (Narrowed (replicate 32 255))
   shared-none every h =
       read_none (Narrowed (replicate 32 255)) every h.holds (record { size = refl; short = h.short; left = refl })
 
-  module _ {at : ℕ} {masks : List ℕ} (i : ReadTo lent at (Narrowed masks)) where
-    module _ {goal : List ℕ} (l : at < length lent) (g : goal ≡ part lent (at + 1) (byte lent at)) where
+  module _ {rest masks : List ℕ} (i : ReadTo lent rest (Narrowed masks)) where
+    module _ {goal others : List ℕ} (f : Front rest goal others) where
       pub shared-short : length goal ≤ length masks
       shared-short =
-          let k = (read_first (Narrowed masks) i l i.holds).1 in
-          rw k.size (k.short goal (Memᴰ.head g))
+          let k = (read_first (Narrowed masks) i f i.holds).1 in
+          rw k.size (k.short goal (Memᴰ.head refl))
 
-      pub shared-next : {next : ℕ} {after : List ℕ} → length after ≡ length masks → after ≡ narrowed masks goal
-          → next ≡ at + 1 + byte lent at → ReadTo lent next (Narrowed after)
+      pub shared-next : {after : List ℕ} → length after ≡ length masks → after ≡ narrowed masks goal
+          → ReadTo lent others (Narrowed after)
       unfolding narrowed_by
-      shared-next {after = after} z n b =
-          read_next (Narrowed masks) i (Narrowed after) l b (λ every rest k.
+      shared-next {after} z n =
+          read_next (Narrowed masks) i f (Narrowed after) (λ every later k.
           record {
             size = z ∙ k.size;
             short = λ other m. k.short other (Memᴰ.tail m);
-            left = rw (n, g) k.left;
+            left = rw n k.left;
           })
 
-    pub shared-end : length lent ≤ at → (every : Goals) → SplitsShort lent every → (machine : ℕ) → machine < 32
+    pub shared-end : rest ≡ [] → (every : Goals) → SplitsShort lent every → (machine : ℕ) → machine < 32
         → get_or masks machine 0 ≡ shared_modes every machine
     unfolding narrowed_by
-    shared-end l every h machine few =
-        rw (read-end (Narrowed masks) i l h.holds).left (narrowed-shared every machine few)
+    shared-end z every h machine few =
+        rw (read-end (Narrowed masks) i z h.holds).left (narrowed-shared every machine few)

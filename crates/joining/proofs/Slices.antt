@@ -21,7 +21,7 @@ module _ (n len : ℕ) (rest : List ℕ) where
   unfolding goals_in
   goal-cut t = unless-first _ [] _ t
 
-  goal-whole : ltb (length rest) len ≡ false
+  pub goal-whole : ltb (length rest) len ≡ false
       → goals_in (suc n) (len ∷ rest) ≡ and_then (goals_in n (drop len rest)) (λ goals. given (take len rest ∷ goals))
   unfolding goals_in unless
   goal-whole f = unless-later _ [] _ f

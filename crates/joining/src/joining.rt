@@ -1,5 +1,6 @@
 // Joining goals: tests 1 to 8 and 21, 14 of the slice and of each goal, 19 and 12, then writes the joined goal.
-ghost use Rattle.std.specs.Prelude.{◌≡◌, ◌≤◌, length, get_or, eqb};
+ghost use Rattle.std.specs.Prelude.{◌≡◌, ◌≤◌, length, get_or, eqb, ◌<◌, IfSome};
+ghost use Rattle.std.specs.Option.{unwrap_or};
 ghost use Rattle.common.specs.Lists.{up_to, find};
 ghost use Rattle.common.specs.Reply.{given, unless, length_of, output_after};
 ghost use Rattle.sheet.specs.Model.{Model, machine_count};
@@ -10,26 +11,25 @@ ghost use Rattle.joining.specs.Kept.Lent.{SplitsShort};
 
 use crate::lent::{check_each, longest, shared, whole};
 use command::state::LENGTH;
-use sheet::refusal::{Cause, Length, Verdict};
+use sheet::refusal::{Cause, Refusal};
 use sheet::writing::put_bytes;
 
-// The first of n machines that is left without a mode, or n.
-fn first_without(masks: &[u8], n: usize) -> usize
+// The first of n machines that is left without a mode.
+fn first_without(masks: &[u8], n: usize) -> Option<usize>
     requires { n ≤ length masks.now }
-    ensures { result ≡ find (λ i. eqb (get_or masks.now i 0) 0) (up_to n) n }
+    ensures first { unwrap_or result n ≡ find (λ i. eqb (get_or masks.now i 0) 0) (up_to n) n }
+    ensures inside { IfSome result (λ i. i < n) }
 {
-    let mut i: usize = 0;
-    while i < n {
+    for i in 0..n {
         if masks[i] == 0 {
-            return i;
+            return Some(i);
         }
-        i += 1;
     }
-    n
+    None
 }
 
 // Writes the joined goal, for goals that pass 14: 19, 12.
-fn write(goals: &[u8], out: &mut [u8]) -> Length
+fn write(goals: &[u8], out: &mut [u8]) -> Result<usize, Refusal>
     requires { (each : Goals) × SplitsShort goals.now each }
     ensures reply { (each : Goals) → SplitsShort goals.now each
         → measured_of result ≡ length_of (unless (shared_faults each (length out.old)) (given (joined each))) }
@@ -39,19 +39,18 @@ fn write(goals: &[u8], out: &mut [u8]) -> Length
 {
     let n = longest(goals);
     let masks = shared(goals);
-    let without = first_without(&masks[..], n);
-    if without < n {
-        return Length::Refused(Cause::NoSharedMode, without);
+    if let Some(without) = first_without(&masks[..], n) {
+        return Err(Cause::NoSharedMode.at(without));
     }
     if out.len() < n {
-        return Length::Refused(Cause::WrongBuffer, 0);
+        return Err(Cause::WrongBuffer.at(0));
     }
     put_bytes(out, 0, &masks[..n]);
-    Length::Bytes(n)
+    Ok(n)
 }
 
 // Joins goals for n machines of these mode counts: 14, then the rest.
-fn join_goals(goals: &[u8], out: &mut [u8], modes: &[u8], n: usize) -> Length
+fn join_goals(goals: &[u8], out: &mut [u8], modes: &[u8], n: usize) -> Result<usize, Refusal>
     requires { ((m : Model) × CountsOf m modes.now × (n ≡ machine_count m)) × (n ≤ 32) × (length modes.now ≡ 32) }
     ensures reply { (m : Model) → CountsOf m modes.now → n ≡ machine_count m
         → measured_of result ≡ length_of (joined_reply m goals.now (length out.old)) }
@@ -59,28 +58,20 @@ fn join_goals(goals: &[u8], out: &mut [u8], modes: &[u8], n: usize) -> Length
         → out.new ≡ output_after (joined_reply m goals.now (length out.old)) out.old }
 {
     if !whole(goals) {
-        return Length::Refused(Cause::BadGoal, LENGTH);
+        return Err(Cause::BadGoal.at(LENGTH));
     }
-    let verdict = check_each(goals, modes, n);
-    let Verdict::Refused(cause, place) = verdict else {
-        return write(goals, out);
-    };
-    Length::Refused(cause, place)
+    check_each(goals, modes, n)?;
+    write(goals, out)
 }
 
 // Joins the goals of a slice into one for a sheet, and replies its length.
-pub fn join(file: &[u8], goals: &[u8], out: &mut [u8]) -> Length
+pub fn join(file: &[u8], goals: &[u8], out: &mut [u8]) -> Result<usize, Refusal>
     ensures reply { measured_of result
         ≡ length_of (join_reply file.now goals.now (length out.old)) }
     ensures written { out.new
         ≡ output_after (join_reply file.now goals.now (length out.old)) out.old }
 {
-    let reading = sheet::scan::read(file);
-    let verdict = reading.verdict;
-    let Verdict::Refused(cause, place) = verdict else {
-        let modes = reading.sheet.modes;
-        let n = reading.sheet.machines;
-        return join_goals(goals, out, &modes[..], n);
-    };
-    Length::Refused(cause, place)
+    let sheet = sheet::scan::read(file)?;
+    let modes = sheet.modes;
+    join_goals(goals, out, &modes[..], sheet.machines)
 }

@@ -1,8 +1,9 @@
 // The goals that are lent in one slice, each after a byte with its length: how many they may be, each of them tested (14), the
 // longest, and what all of them allow.
 ghost use Rattle.std.specs.Prelude.{◌≡◌, ℕ, ◌+◌, ◌≤◌, ◌<◌, length, get_or};
+ghost use Rattle.std.specs.Iterator.{at_most};
 ghost use Rattle.common.specs.Reply.{given, unless};
-ghost use Rattle.sheet.specs.Record.{byte, part};
+ghost use Rattle.sheet.specs.Record.{byte};
 ghost use Rattle.sheet.specs.Model.{Model, machine_count};
 ghost use Rattle.plan.specs.Kept.Sizes.{CountsOf};
 ghost use Rattle.sheet.specs.Refusal.{verdict_says};
@@ -11,8 +12,7 @@ ghost use Rattle.joining.specs.Kept.Lent.{is_given, Splits, SplitsShort, narrowe
 
 use command::goal::check;
 use sheet::index::Sheet;
-use sheet::record::wide;
-use sheet::refusal::Verdict;
+use sheet::refusal::Refusal;
 
 // Goals that are joined.
 #[derive(Clone, Copy)]
@@ -28,50 +28,64 @@ fn behind(goals: &[u8], at: usize) -> usize
     requires { at < length goals.now }
     ensures { result ≡ at + 1 + byte goals.now at }
 {
-    at + 1 + wide(goals[at])
+    at + 1 + usize::from(goals[at])
 }
 
-// The goal that begins at a place.
-fn goal_at(goals: &[u8], at: usize) -> &[u8]
-    requires { at + 1 + byte goals.now at ≤ length goals.now }
-    ensures { result.now ≡ part goals.now (at + 1) (byte goals.now at) }
+// The goals of a slice that are still to come.
+#[derive(Clone, Copy)]
+struct Coming<'a> {
+    rest: &'a [u8],
+}
+
+// The goals of a slice, one after the other: what a loop over them goes through.
+fn each(goals: &[u8]) -> Coming<'_>
+    ensures { result.rest.now ≡ goals.now }
 {
-    let start = at + 1;
-    let end = behind(goals, at);
-    &goals[start..end]
+    Coming { rest: goals }
+}
+
+impl<'a> Iterator for Coming<'a> {
+    ghost use Rattle.joining.specs.Kept.Coming.{GivesGoal};
+
+    type Item = &'a [u8];
+
+    ghost next_gives = { GivesGoal };
+
+    ghost remaining = { λ m. at_most (length m.rest.now) };
+
+    // A goal that is cut short ends with the slice.
+    fn next(&mut self) -> Option<&'a [u8]> {
+        let (len, behind) = self.rest.split_first()?;
+        let (goal, rest) = behind.split_at(usize::from(*len).min(behind.len()));
+        self.rest = rest;
+        Some(goal)
+    }
 }
 
 // Whether there are at most eight goals, the last of them whole.
 pub fn whole(goals: &[u8]) -> bool
     ensures { result ≡ is_given (goals_in most_goals goals.now) }
 {
-    let mut left: usize = Joint::GOALS;
     let mut at: usize = 0;
-    while at < goals.len() {
-        if left == 0 {
-            return false;
+    for _ in 0..Joint::GOALS {
+        if goals.len() <= at {
+            break;
         }
-        left -= 1;
         at = behind(goals, at);
     }
     at == goals.len()
 }
 
 // Tests each goal in turn, for n machines of these mode counts: 14.
-pub fn check_each(goals: &[u8], modes: &[u8], n: usize) -> Verdict
+pub fn check_each(goals: &[u8], modes: &[u8], n: usize) -> Result<(), Refusal>
     requires { ((each : Goals) × Splits goals.now each) × (n ≤ 32) × (length modes.now ≡ 32) }
     ensures { (m : Model) (each : Goals) → CountsOf m modes.now → n ≡ machine_count m
         → Splits goals.now each → verdict_says result ≡ unless (each_faults m each) (given tt) }
 {
-    let mut at: usize = 0;
-    while at < goals.len() {
-        let verdict = check(goal_at(goals, at), modes, n);
-        let Verdict::Accepted = verdict else {
-            return verdict;
-        };
-        at = behind(goals, at);
+    for goal in each(goals) {
+        check(goal, modes, n)?;
     }
-    Verdict::Accepted
+    Ok(())
 }
 
 // The length of the longest goal.
@@ -80,13 +94,8 @@ pub fn longest(goals: &[u8]) -> usize
     ensures { (each : Goals) → Splits goals.now each → result ≡ longest_goal each }
 {
     let mut r: usize = 0;
-    let mut at: usize = 0;
-    while at < goals.len() {
-        let n = wide(goals[at]);
-        if r < n {
-            r = n;
-        }
-        at = behind(goals, at);
+    for goal in each(goals) {
+        r = r.max(goal.len());
     }
     r
 }
@@ -96,10 +105,8 @@ fn narrow(masks: &mut [u8], goal: &[u8])
     requires { length goal.now ≤ length masks.old }
     ensures { masks.new ≡ narrowed masks.old goal.now }
 {
-    let mut i: usize = 0;
-    while i < goal.len() {
-        masks[i] = masks[i] & goal[i];
-        i += 1;
+    for i in 0..goal.len() {
+        masks[i] &= goal[i];
     }
 }
 
@@ -110,10 +117,8 @@ pub fn shared(goals: &[u8]) -> [u8; Sheet::MACHINES]
         → get_or result i 0 ≡ shared_modes each i }
 {
     let mut r = [255u8; Sheet::MACHINES];
-    let mut at: usize = 0;
-    while at < goals.len() {
-        narrow(&mut r[..], goal_at(goals, at));
-        at = behind(goals, at);
+    for goal in each(goals) {
+        narrow(&mut r[..], goal);
     }
     r
 }

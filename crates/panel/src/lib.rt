@@ -3,41 +3,60 @@
 
 pub mod promises;
 
-ghost use Rattle.std.specs.Prelude.{◌≡◌, ℕ, ◌+◌, ◌*◌, ◌≤◌, length};
+ghost use Rattle.std.specs.Prelude.{◌≡◌, ℕ, ◌+◌, ◌*◌, ◌≤◌, length, Ok};
 ghost use Rattle.common.specs.Reply.{refused, length_of, output_after};
 ghost use Rattle.sheet.specs.Refusal.{number_of, measured_of};
 ghost use Rattle.sheet.specs.Parse.{parse};
 ghost use Rattle.plan.specs.Planning.{length_reply, plan_reply, buffer_after, scratch_after};
 ghost use Rattle.command.specs.Next.{next_reply};
 ghost use Rattle.command.specs.Apply.{apply_reply, effect_reply, state_after};
+ghost use Rattle.command.specs.Says.{advice_says, change_says};
 ghost use Rattle.clean.specs.Clean.{clean_reply};
 ghost use Rattle.joining.specs.Join.{join_reply};
 ghost use Rattle.picture.specs.Graph.{graph_reply, read_reply};
 ghost use Rattle.panel.specs.Words.{word_of, sheet_reply, done_reply, command_reply, move_reply};
 
-use command::acting::Change;
-use command::method::Advice;
-use plan::making::Planned;
-use sheet::index::Machine;
-use sheet::refusal::{Cause, Length, Verdict};
+use command::method::Command;
+use sheet::index::{Machine, Move};
+use sheet::refusal::Refusal;
 
 // The word of a refusal.
-fn refusal(cause: Cause, place: usize) -> u64
-    requires { place ≤ 65535 }
-    ensures { result ≡ 4294967296 * number_of cause + place }
+fn refusal(why: Refusal) -> u64
+    requires { why.place ≤ 65535 }
+    ensures { result ≡ 4294967296 * number_of why.cause + why.place }
 {
-    4294967296 * (sheet::refusal::number(cause) as u64) + place as u64
+    4294967296 * u64::from(u8::from(why.cause)) + why.place as u64
 }
 
 // The word of a number of bytes, or of the refusal.
-fn length_word(length: Length) -> u64
+fn length_word(length: Result<usize, Refusal>) -> u64
     requires { (number place : ℕ) → measured_of length ≡ refused number place → place ≤ 65535 }
     ensures { result ≡ word_of (measured_of length) }
 {
     match length {
-        Length::Bytes(bytes) => bytes as u64,
-        Length::Refused(cause, place) => refusal(cause, place),
+        Ok(bytes) => bytes as u64,
+        Err(why) => refusal(why),
     }
+}
+
+// The word of a command; 0 where all is done.
+fn command_word(command: Option<Command>) -> u64
+    ensures { result ≡ word_of (command_reply (advice_says (Ok command))) }
+{
+    let Some(command) = command else {
+        return 0;
+    };
+    65536 + 256 * u64::from(command.machine.0) + u64::from(command.byte)
+}
+
+// The word of a move that was made; 255 for none.
+fn move_word(made: Option<Move>) -> u64
+    ensures { result ≡ word_of (move_reply (change_says (Ok made))) }
+{
+    let Some(v) = made else {
+        return 255;
+    };
+    256 + u64::from(v.0)
 }
 
 // Checks a sheet: 256 × moves + machines, or the refusal.
@@ -45,12 +64,10 @@ fn length_word(length: Length) -> u64
 pub extern "C" fn duty_sheet(file: &[u8]) -> u64
     ensures { result ≡ word_of (sheet_reply (parse file.now)) }
 {
-    let reading = sheet::scan::read(file);
-    let verdict = reading.verdict;
-    let Verdict::Refused(cause, place) = verdict else {
-        return 256 * (reading.sheet.moves as u64) + reading.sheet.machines as u64;
-    };
-    refusal(cause, place)
+    match sheet::scan::read(file) {
+        Ok(sheet) => 256 * (sheet.moves as u64) + sheet.machines as u64,
+        Err(why) => refusal(why),
+    }
 }
 
 // The length of the plan of a sheet, in bytes, or the refusal.
@@ -73,11 +90,10 @@ pub extern "C" fn duty_plan(file: &[u8], buffer: &mut [u8], scratch: &mut [u8]) 
         ≡ scratch_after (plan_reply file.now (length buffer.old) (length scratch.old))
         scratch.old }
 {
-    let planned = plan::making::plan(file, buffer, scratch);
-    match planned {
-        Planned::Written => 0,
-        Planned::Refused(cause, place) => refusal(cause, place),
-    }
+    let Err(why) = plan::making::plan(file, buffer, scratch) else {
+        return 0;
+    };
+    refusal(why)
 }
 
 // The next command for a sheet, a plan, a state and a goal: 0 for done, or 65536 + 256 × machine + command, or the refusal.
@@ -86,11 +102,9 @@ pub extern "C" fn duty_next(file: &[u8], plan: &[u8], state: &[u8], goal: &[u8])
     ensures { result ≡ word_of (command_reply
         (next_reply file.now plan.now state.now goal.now)) }
 {
-    let advice = command::advising::next(file, plan, state, goal);
-    match advice {
-        Advice::Done => 0,
-        Advice::Send(machine, byte) => 65536 + 256 * (machine.0 as u64) + byte as u64,
-        Advice::Refused(cause, place) => refusal(cause, place),
+    match command::advising::next(file, plan, state, goal) {
+        Ok(command) => command_word(command),
+        Err(why) => refusal(why),
     }
 }
 
@@ -102,11 +116,9 @@ pub extern "C" fn duty_apply(file: &[u8], state: &mut [u8], machine: u8, byte: u
     ensures left { state.new
         ≡ state_after (apply_reply file.now state.old machine byte) state.old }
 {
-    let change = command::acting::apply(file, state, Machine(machine), byte);
-    match change {
-        Change::Changed(v) => 256 + v.0 as u64,
-        Change::Unchanged => 255,
-        Change::TurnedDown(cause, place) => refusal(cause, place),
+    match command::acting::apply(file, state, Machine(machine), byte) {
+        Ok(made) => move_word(made),
+        Err(why) => refusal(why),
     }
 }
 

@@ -3,9 +3,9 @@
 use Prim.Native.Nat.{ℕ, ◌+◌, ◌≤◌, ◌<◌}
 use mathlib.Core.Path.{◌≡◌, refl, sym, ap, ap₂, subst, ◌∙◌}
 use mathlib.Core.List.{List, [], ◌++◌, flat_map, append_assoc, Memᴰ}
-use mathlib.Core.Bool.{Bool, true, false, not, ◌&&◌}
+use mathlib.Core.Bool.{Bool, true, false, ◌&&◌}
 use native.Mathlib.Omega.{arith}
-use borrow.Author.Tests.{lt-ltb, ltb-true, eq-eqb, not-true, not-false}
+use borrow.Author.Tests.{lt-ltb, ltb-true, eq-eqb}
 use lib.Dec.{eqb, ltb}
 use lib.ListN.{length, get_or, drop, length-drop}
 use Rattle.common.specs.Bits.{bit}
@@ -15,18 +15,17 @@ use Rattle.common.proofs.Members.{up_to-below}
 use Rattle.common.proofs.Sums.{flat_map-cong}
 use Rattle.decimal.specs.Decimal.{starts_with}
 use Rattle.decimal.proofs.Standing.{starts-length}
-use Rattle.plan.specs.Groups.{group_of, group_count, members}
+use Rattle.plan.specs.Groups.{Grouping, group_of, group_count, members}
 use Rattle.plan.proofs.Groups.{highest-group}
 use Rattle.plan.proofs.Named.{group-below-count}
 use Rattle.plan.proofs.ModeDigits.{member_below, is_member}
 use Rattle.picture.specs.declared.matching.Nodes.{Nodes}
-use Rattle.picture.specs.declared.matching.End.{End}
 use Rattle.picture.specs.Picture.{Picture, edges_by}
 use Rattle.picture.specs.Text.{first_line, last_line, line_start, node_line, edge_line, text_of}
 use Rattle.picture.specs.Reading.{drawable}
 use Rattle.picture.specs.Kept.Matched.{NoPicture, labelled}
 use Rattle.picture.specs.Kept.Rows.{label_start, node_of, edges_of}
-use Rattle.picture.specs.Kept.Matched.{Grouped, NodesFound, Gapless, EdgesFound, TextFound}
+use Rattle.picture.specs.Kept.Matched.{Grouped, NodesRead, Below, Drawn, EdgesRead, TextRead}
 use Rattle.picture.proofs.Apart.{no-line-opens}
 use Rattle.picture.proofs.DrawableMeans.{Drawable, drawable-means, few-groups, group-used}
 use Rattle.picture.proofs.Seen.{is-labelled, labelled-seen}
@@ -88,20 +87,17 @@ module _ {text : List ℕ} {p : Picture} {rel : ℕ → ℕ → Bool} (c : Candi
             (e ∙ append_assoc (line_start k) label_start more);
       }
 
-  module _ {numbers : List ℕ} {r : Nodes} (nodes : NodesFound text numbers r) where
+  module _ {numbers : List ℕ} {r : Nodes} (nodes : NodesRead text numbers r) where
     same_count : r.count ≡ count
     same_count = (nodes.only p.groups tail grouped).0
 
     same-label : (j : ℕ) → j < r.count → labelled numbers r.seen j ≡ members p.groups j
     same-label = (nodes.only p.groups tail grouped).1
 
-    candidate-some : r.count ≡ 0 → ⊥
-    candidate-some e = omega (arith, same_count, group-below-count p.groups 0 means.some)
-
     -- the machines that were seen are those of the picture
-    seen_are : 0 < r.count → (i : ℕ) → bit r.seen i ≡ ltb i (length p.groups)
-    seen_are some i =
-        let stand = nodes.stand some in
+    seen_are : (i : ℕ) → bit r.seen i ≡ ltb i (length p.groups)
+    seen_are i =
+        let stand = nodes.stand in
         bool-ext
         (λ t.
         let few = stand.few i t in
@@ -115,89 +111,68 @@ module _ {text : List ℕ} {p : Picture} {rel : ℕ → ℕ → Bool} (c : Candi
         let there = subst (λ is. Memᴰ i is) (sym (same-label k h)) (is_member p.groups k l refl) in
         labelled-seen numbers r.seen k there)
 
-    candidate-machines : {n : ℕ} → 0 < r.count → Gapless r.seen n → n < r.count → ⊥
-    candidate-machines some gapless l =
+    candidate-gapless : ((m : ℕ) → 0 < m → m ≤ 64 → ((i : ℕ) → bit r.seen i ≡ ltb i m) → ⊥) → ⊥
+    candidate-gapless none = let few = means.few in none (length p.groups) means.some (omega arith) seen_are
+
+    candidate-machines : {n : ℕ} → Below r.seen n → n < r.count → ⊥
+    candidate-machines gapless l =
         let few = means.few in
-        let n = gapless.only (length p.groups) means.some (omega arith) (seen_are some) in
+        let n = gapless.only (length p.groups) means.some (omega arith) seen_are in
         omega (arith, same_count, groups-within)
 
-    module _ {targets : List ℕ} {e : End} (edges : EdgesFound text r.end r.count targets e) where
-      edges-only : (e.fits ≡ true) × (drop e.end text ≡ last_line)
-      edges-only =
-          edges.only rel ((nodes.only p.groups tail grouped).2
-          ∙ ap (λ n. flat_map (λ a. edges_of a (filter (rel a) (up_to n))) (up_to n) ++ last_line) (sym same_count))
+    candidate-drawn : Drawn text r.end r.count rel
+    candidate-drawn =
+        (nodes.only p.groups tail grouped).2
+        ∙ ap (λ n. flat_map (λ a. edges_of a (filter (rel a) (up_to n))) (up_to n) ++ last_line) (sym same_count)
 
-      candidate-fits : e.fits ≡ false → ⊥
-      candidate-fits f = true-false edges-only.0 f
-
-      candidate-ends : starts_with last_line (drop e.end text) && eqb (e.end + 2) (length text) ≡ false → ⊥
-      candidate-ends f =
-          let there = edges-only.1 in
-          let size : e.end + 2 ≡ length text = omega (arith, ap length there, length-drop e.end text) in
-          true-false (and_intro (starts-there last_line [] there) (eq-eqb _ _ size)) f
+    candidate-ends : {targets : List ℕ} {end : ℕ} → EdgesRead text r.end r.count targets end
+        → starts_with last_line (drop end text) && eqb (end + 2) (length text) ≡ false → ⊥
+    candidate-ends {end = end} edges f =
+        let there = edges.only rel candidate-drawn in
+        let size : end + 2 ≡ length text = omega (arith, ap length there, length-drop end text) in
+        true-false (and_intro (starts-there last_line [] there) (eq-eqb _ _ size)) f
 
 -- A text that is read, and one that is refused where reading it stops
 
 pub text-found : {text numbers targets : List ℕ} {seen n count end last : ℕ}
     → Matches text numbers targets seen n count end last
-    → TextFound text numbers targets (record { machines = n; groups = count })
+    → TextRead text numbers targets (record { machines = n; groups = count })
 text-found m =
     let few = matches-few m in
-    let some = m.some in
     let more = m.no_more in
-    record {
-      few-machines = few;
-      few-groups = omega arith;
-      shown = λ l. matches-shown m;
-      other = λ e. absurd (let f : ⊥ = omega arith in f);
-    }
-
--- that a text is refused
-abbrev Refused : List ℕ → List ℕ → List ℕ → Type 0
-Refused text numbers targets = TextFound text numbers targets (record { machines = 0; groups = 0 })
-
-text-refused : {text : List ℕ} (numbers targets : List ℕ)
-    → ((p : Picture) (rel : ℕ → ℕ → Bool) → Candidate text p rel → ⊥) → Refused text numbers targets
-text-refused numbers targets never =
-    record {
-      few-machines = omega arith;
-      few-groups = omega arith;
-      shown = λ l. absurd (let f : ⊥ = omega arith in f);
-      other = λ e. no-picture never;
-    }
+    record { few-machines = few; few-groups = omega arith; shown = matches-shown m }
 
 module _ (text : List ℕ) {opens : Bool} (o : opens ≡ starts_with first_line (drop 0 text)) where
-  pub first-refused : (numbers targets : List ℕ) → not opens ≡ true → Refused text numbers targets
-  first-refused numbers targets f =
-      text-refused numbers targets (λ p rel c. true-false (o ∙ candidate-first c) (not-true _ f))
+  pub first-refused : opens ≡ false → NoPicture text
+  first-refused f = no-picture (λ p rel c. true-false (o ∙ candidate-first c) f)
 
-  pub first-long : not opens ≡ false → 17 ≤ length text
-  first-long f = starts-length first_line text (sym o ∙ not-false _ f)
+  pub first-long : opens ≡ true → 17 ≤ length text
+  first-long t = starts-length first_line text (sym o ∙ t)
 
-module _ {text numbers : List ℕ} {r : Nodes} (nodes : NodesFound text numbers r) where
-  pub nodes-refused : (targets : List ℕ) → r.count ≡ 0 → Refused text numbers targets
-  nodes-refused targets z = text-refused numbers targets (λ p rel c. candidate-some c nodes z)
+pub nodes-refused : {text : List ℕ} → ((groups : Grouping) (rest : List ℕ) → Grouped text groups rest → ⊥) → NoPicture text
+nodes-refused none = no-picture (λ p rel c. none _ _ (grouped c))
 
-  module _ (some : r.count ≡ 0 → ⊥) where
-    some-nodes : 0 < r.count
-    some-nodes = omega arith
+module _ {text numbers : List ℕ} {r : Nodes} (nodes : NodesRead text numbers r) where
+  pub nodes-inside : r.end ≤ length text
+  nodes-inside = nodes.stand.spans.inside
 
-    pub nodes-inside : r.end ≤ length text
-    nodes-inside = (nodes.stand some-nodes).spans.inside
+  pub gaps-refused : ((m : ℕ) → 0 < m → m ≤ 64 → ((i : ℕ) → bit r.seen i ≡ ltb i m) → ⊥) → NoPicture text
+  gaps-refused none = no-picture (λ p rel c. candidate-gapless c nodes none)
 
-    pub machines-refused : (targets : List ℕ) {n : ℕ} → Gapless r.seen n → n < r.count
-        → Refused text numbers targets
-    machines-refused targets gapless l =
-        text-refused numbers targets (λ p rel c. candidate-machines c nodes some-nodes gapless l)
+  -- a machine that was seen is of some group
+  pub nodes-some : {n : ℕ} → Below r.seen n → 0 < r.count
+  nodes-some {n} gapless = omega (arith, nodes.stand.below 0 (gapless.bits 0 ∙ lt-ltb 0 n gapless.some))
 
-  module _ {targets : List ℕ} {e : End} (edges : EdgesFound text r.end r.count targets e) where
-    pub edges-refused : not e.fits ≡ true → Refused text numbers targets
-    edges-refused f = text-refused numbers targets (λ p rel c. candidate-fits c nodes edges (not-true _ f))
+  pub machines-refused : {n : ℕ} → Below r.seen n → n < r.count → NoPicture text
+  machines-refused gapless l = no-picture (λ p rel c. candidate-machines c nodes gapless l)
 
-    pub edges-inside : not e.fits ≡ false → e.end ≤ length text
-    edges-inside f = (edges.stand (not-false _ f)).spans.inside
+  pub edges-refused : ((rel : ℕ → ℕ → Bool) → Drawn text r.end r.count rel → ⊥) → NoPicture text
+  edges-refused none = no-picture (λ p rel c. none rel (candidate-drawn c nodes))
+
+  module _ {targets : List ℕ} {end : ℕ} (edges : EdgesRead text r.end r.count targets end) where
+    pub edges-inside : end ≤ length text
+    edges-inside = edges.stand.spans.inside
 
     pub end_refused : {closes : Bool}
-        → closes ≡ (starts_with last_line (drop e.end text) && eqb (e.end + 2) (length text)) → not closes ≡ true
-        → Refused text numbers targets
-    end_refused is f = text-refused numbers targets (λ p rel c. candidate-ends c nodes edges (sym is ∙ not-true _ f))
+        → closes ≡ (starts_with last_line (drop end text) && eqb (end + 2) (length text)) → closes ≡ false → NoPicture text
+    end_refused is f = no-picture (λ p rel c. candidate-ends c nodes edges (sym is ∙ f))

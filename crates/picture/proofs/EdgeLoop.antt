@@ -3,9 +3,8 @@
 use Prim.Native.Nat.{ℕ, ◌+◌, ◌*◌, ◌-◌, ◌^◌, ◌≤◌, ◌<◌}
 use mathlib.Core.Path.{◌≡◌, refl, sym, ap, ◌∙◌}
 use mathlib.Core.List.{List, [], ◌∷◌, ◌++◌, append_assoc, append-nil}
-use mathlib.Core.Bool.{Bool, true, false, not}
+use mathlib.Core.Bool.{Bool, true, false}
 use native.Mathlib.Omega.{arith}
-use borrow.Author.Tests.{not-true, not-false}
 use mir.Val.{Fits}
 use mir.Syntax.{w64}
 use lib.ListN.{length, drop, length-append}
@@ -20,7 +19,7 @@ use Rattle.sets.proofs.Members.{elements-none}
 use Rattle.picture.specs.declared.matching.Number.{Number}
 use Rattle.picture.specs.Picture.{edge}
 use Rattle.picture.specs.Text.{line_start, edge_line}
-use Rattle.picture.specs.Kept.Matched.{Spans, NumberFound, Joined, RowFound}
+use Rattle.picture.specs.Kept.Matched.{Spans, Numbered, NumberRead, Joined, RowRead}
 use Rattle.picture.specs.Kept.Rows.{arrow, edge_end, edges_of}
 use Rattle.picture.proofs.LineParts.{edge_start, row-parts, row-none, row_snoc}
 use Rattle.picture.proofs.Rising.{elements-more, grown-below, next-below, next-rises}
@@ -46,15 +45,6 @@ module _ (text : List ℕ) (at a n : ℕ) where
         left = λ q rest j. record { todo = filter q (up_to n); all_are = rw elements-none refl; stand = j.stands };
       }
 
-  row-refused : (end : ℕ) → ((q : ℕ → Bool) (rest : List ℕ) → Joined text at a n q rest → ⊥)
-      → RowFound text at a n (record { targets = 0; end = end; fits = false })
-  row-refused end never =
-      record {
-        below = λ f. absurd (true-false refl (sym f));
-        spans = λ f. absurd (true-false refl (sym f));
-        only = λ q rest j. absurd (never q rest j);
-      }
-
   module _ {targets end : ℕ} (u : RowUpto targets end) where
     abbrev opens : Bool
     opens = starts_with (edge_start a) (drop end text)
@@ -74,9 +64,8 @@ module _ (text : List ℕ) (at a n : ℕ) where
             absurd (true-false (starts-there (edge_start a) _ (stand ∙ row-parts a k todo rest)) f)
 
     pub row_ends : {o : Bool} → o ≡ opens → o ≡ false
-        → RowFound text at a n (record { targets = targets; end = end; fits = true })
-    row_ends e f =
-        record { below = λ t. u.below; spans = λ t. u.spans; only = λ q rest j. (refl, ended (sym e ∙ f) q rest j) }
+        → RowRead text at a n (record { targets = targets; end = end })
+    row_ends e f = record { below = u.below; spans = u.spans; only = ended (sym e ∙ f) }
 
     -- An edge more
 
@@ -94,82 +83,92 @@ module _ (text : List ℕ) (at a n : ℕ) where
       pub head-room : length text * 1 < 2 ^ 63 → Fits w64 (end + (8 + width))
       head-room l = omega (arith, row_inside)
 
-      module _ {r : Number} (found : NumberFound text (end + (8 + width)) targets n r) (small : n ≤ 64) where
-        -- the next that can stand there is the one that was read
-        record Next (q : ℕ → Bool) (rest : List ℕ) : Type 0 where
-          fits : r.fits ≡ true
-          todo : List ℕ
-          all_are : filter q (up_to n) ≡ elements targets ++ (r.value ∷ todo)
-          stand : drop r.end text ≡ edge_end ++ (edges_of a todo ++ rest)
+      -- the next that can stand there
+      record Coming (q : ℕ → Bool) (rest : List ℕ) : Type 0 where
+        number : ℕ
+        todo : List ℕ
+        all_are : filter q (up_to n) ≡ elements targets ++ (number ∷ todo)
+        there : Numbered text (end + (8 + width)) targets n number (edge_end ++ (edges_of a todo ++ rest))
 
-        next-is : (q : ℕ → Bool) (rest : List ℕ) → Joined text at a n q rest → Next q rest
-        next-is q rest j =
+      module _ (small : n ≤ 64) where
+        coming : (q : ℕ → Bool) (rest : List ℕ) → Joined text at a n q rest → Coming q rest
+        coming q rest j =
             let left = u.left q rest j in
             among left.todo left.all_are left.stand
           where
             among : (todo : List ℕ) → filter q (up_to n) ≡ elements targets ++ todo
-                → drop end text ≡ edges_of a todo ++ rest → Next q rest
+                → drop end text ≡ edges_of a todo ++ rest → Coming q rest
             among [] all_are stand =
                 let opened = starts-rest (edge_start a) (drop end text) (sym e ∙ t) in
                 absurd (j.closed _ (sym (stand ∙ ap (λ r. r ++ rest) (row-none a)) ∙ opened))
             among (i ∷ todo) all_are stand =
-                let there = spans-rest head (stand ∙ row-parts a i todo rest) in
-                let few = next-below q n targets i todo all_are in
-                let above = next-rises q n targets i todo all_are (λ k b. let l = u.below k b in omega arith) in
-                let (fits, same) = found.only i _ few above (λ l x y. omega arith) there in
                 record {
-                  fits = fits;
+                  number = i;
                   todo = todo;
-                  all_are = rw same all_are;
-                  stand = spans-rest (found.spans fits) (rw same there);
+                  all_are = all_are;
+                  there = record {
+                    below = next-below q n targets i todo all_are;
+                    above = next-rises q n targets i todo all_are (λ k b. let l = u.below k b in omega arith);
+                    ends = λ l x y. omega arith;
+                    stands = spans-rest head (stand ∙ row-parts a i todo rest);
+                  };
                 }
 
-        pub row-stops : (last : ℕ) → not r.fits ≡ true
-            → RowFound text at a n (record { targets = 0; end = last; fits = false })
-        row-stops last f = row-refused last (λ q rest j. true-false (next-is q rest j).fits (not-true _ f))
+        pub row-stops : ((i : ℕ) (rest : List ℕ) → Numbered text (end + (8 + width)) targets n i rest → ⊥)
+            → (q : ℕ → Bool) (rest : List ℕ) → Joined text at a n q rest → ⊥
+        row-stops none q rest j = none _ _ (coming q rest j).there
 
-        abbrev closes : Bool
-        closes = starts_with edge_end (drop r.end text)
+        module _ {r : Number} (found : NumberRead text (end + (8 + width)) targets n r) where
+          -- the number that was read is the next that can stand there
+          record Next (q : ℕ → Bool) (rest : List ℕ) : Type 0 where
+            todo : List ℕ
+            all_are : filter q (up_to n) ≡ elements targets ++ (r.value ∷ todo)
+            stand : drop r.end text ≡ edge_end ++ (edges_of a todo ++ rest)
 
-        pub row_other : {b : Bool} (last : ℕ) → b ≡ closes → not b ≡ true
-            → RowFound text at a n (record { targets = 0; end = last; fits = false })
-        row_other last is f =
-            row-refused last (λ q rest j.
-            true-false (is ∙ starts-there edge_end _ (next-is q rest j).stand) (not-true _ f))
+          next-is : (q : ℕ → Bool) (rest : List ℕ) → Joined text at a n q rest → Next q rest
+          next-is q rest j =
+              let next = coming q rest j in
+              let same : r.value ≡ next.number = found.only next.number _ next.there in
+              record {
+                todo = next.todo;
+                all_are = rw same next.all_are;
+                stand = spans-rest found.spans (rw same next.there.stands);
+              }
 
-        module _ (some : not r.fits ≡ false) where
-          fits : r.fits ≡ true
-          fits = not-false _ some
+          abbrev closes : Bool
+          closes = starts_with edge_end (drop r.end text)
+
+          pub row_other : {b : Bool} → b ≡ closes → b ≡ false
+              → (q : ℕ → Bool) (rest : List ℕ) → Joined text at a n q rest → ⊥
+          row_other is f q rest j = true-false (is ∙ starts-there edge_end _ (next-is q rest j).stand) f
 
           pub row_small : r.value < 64
-          row_small = omega (arith, found.below fits)
+          row_small = omega (arith, found.below)
 
           pub row_within : r.end ≤ length text
-          row_within = (found.spans fits).inside
+          row_within = found.spans.inside
 
           pub row_room : length text * 1 < 2 ^ 63 → Fits w64 (r.end + 2)
           row_room l = omega (arith, row_within)
 
           pub row-less : length text - (r.end + 2) < length text - end
-          row-less = let s = found.spans fits in omega (arith, s.place, s.inside)
+          row-less = let s = found.spans in omega (arith, s.place, s.inside)
 
           line-spans : closes ≡ true → Spans text end (edge_line (edge a r.value)) (r.end + 2)
           unfolding edge_line
           line-spans c =
-              let numbered = found.spans fits in
               rw (sym (append_assoc (line_start a) arrow (decimal r.value)))
-              (spans-then (spans-then head numbered) (spans-bytes edge_end numbered.inside c))
+              (spans-then (spans-then head found.spans) (spans-bytes edge_end found.spans.inside c))
 
-          pub row_next : {b : Bool} {targets' : ℕ} → b ≡ closes → not b ≡ false
+          pub row_next : {b : Bool} {targets' : ℕ} → b ≡ closes → b ≡ true
               → targets' ≡ union targets (alone r.value) → RowUpto targets' (r.end + 2)
           row_next {targets' = targets'} is c m =
-              let l = found.below fits in
+              let l = found.below in
               let now-are : elements targets' ≡ elements targets ++ (r.value ∷ []) =
-              ap elements m ∙ elements-more targets r.value (omega arith) (found.above fits) in
+              ap elements m ∙ elements-more targets r.value (omega arith) found.above in
               record {
                 below = grown-below targets u.below l m;
-                spans = rw (now-are, row_snoc a r.value (elements targets))
-                    (spans-then u.spans (line-spans (sym is ∙ not-false _ c)));
+                spans = rw (now-are, row_snoc a r.value (elements targets)) (spans-then u.spans (line-spans (sym is ∙ c)));
                 left = λ q rest j.
                     let next = next-is q rest j in
                     record {

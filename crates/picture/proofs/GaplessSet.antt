@@ -12,18 +12,14 @@ use Rattle.common.proofs.Bools.{true-false}
 use Rattle.sets.specs.Kept.Sets.{below}
 use Rattle.sets.proofs.Digits.{same_bits}
 use Rattle.sets.proofs.Laws.{bit-none, bit-first}
-use Rattle.picture.specs.Kept.Matched.{Gapless}
+use Rattle.picture.specs.Kept.Matched.{Below}
 
 first_fits : (n : ℕ) → n ≤ 64 → below n < 2 ^ 64
 unfolding below
 first_fits n l = omega (arith, pow_mono l, pow_pos n)
 
-pub gapless-none : {s : ℕ} → s ≡ 0 → Gapless s 0
-gapless-none e =
-    record {
-      bits = λ l. absurd (let f : ⊥ = omega arith in f);
-      only = λ m some few h. absurd (true-false (h 0 ∙ lt-ltb 0 m some) (rw e (bit-none 0)));
-    }
+pub gapless-none : {s : ℕ} → s ≡ 0 → (m : ℕ) → 0 < m → m ≤ 64 → ((i : ℕ) → bit s i ≡ ltb i m) → ⊥
+gapless-none e m some few h = true-false (h 0 ∙ lt-ltb 0 m some) (rw e (bit-none 0))
 
 -- one more than the greatest
 module _ {s top n : ℕ} (small : s < 2 ^ 64) (has : bit s top ≡ true) (no_more : (j : ℕ) → top < j → bit s j ≡ false)
@@ -34,19 +30,16 @@ module _ {s top n : ℕ} (small : s < 2 ^ 64) (has : bit s top ≡ true) (no_mor
       let n : ¬ (top < m - 1) = λ l. true-false (h (m - 1) ∙ lt-ltb (m - 1) m (omega arith)) (no_more (m - 1) l) in
       omega arith
 
-  pub gapless-is : s ≡ n → Gapless s (top + 1)
+  pub gapless-is : s ≡ n → Below s (top + 1)
   gapless-is same =
       record {
-        bits = λ l i. rw (same ∙ e) (bit-first (top + 1) i);
+        some = omega arith;
+        bits = λ i. rw (same ∙ e) (bit-first (top + 1) i);
         only = λ m some few h. only_one m some h;
       }
 
-  pub gapless-not : top < 64 → (s ≡ n → ⊥) → Gapless s 0
-  gapless-not l differs =
-      record {
-        bits = λ l. absurd (let f : ⊥ = omega arith in f);
-        only = λ m some few h.
-            let e' = only_one m some h in
-            absurd (differs (same_bits 64 small (rw e (first_fits (top + 1) (omega arith)))
-            (λ i k. h i ∙ ap (ltb i) (sym e') ∙ sym (bit-first (top + 1) i) ∙ ap (λ x. bit x i) (sym e))));
-      }
+  pub gapless-not : top < 64 → (s ≡ n → ⊥) → (m : ℕ) → 0 < m → m ≤ 64 → ((i : ℕ) → bit s i ≡ ltb i m) → ⊥
+  gapless-not l differs m some few h =
+      let e' = only_one m some h in
+      differs (same_bits 64 small (rw e (first_fits (top + 1) (omega arith)))
+      (λ i k. h i ∙ ap (ltb i) (sym e') ∙ sym (bit-first (top + 1) i) ∙ ap (λ x. bit x i) (sym e)))

@@ -3,9 +3,9 @@
 use Prim.Native.Nat.{ℕ, ◌+◌, ◌*◌, ◌-◌, ◌^◌, ◌≤◌, ◌<◌}
 use mathlib.Core.Path.{◌≡◌, refl, sym, ap, ◌∙◌}
 use mathlib.Core.List.{List, [], ◌∷◌, ◌++◌, append_assoc, append-nil}
-use mathlib.Core.Bool.{Bool, true, false, not}
+use mathlib.Core.Bool.{Bool, true, false}
 use native.Mathlib.Omega.{arith}
-use borrow.Author.Tests.{eqb-true, eqb-false, not-true, not-false}
+use borrow.Author.Tests.{eqb-true, eqb-false}
 use mir.Val.{Fits}
 use mir.Syntax.{w64}
 use lib.Dec.{eqb}
@@ -19,7 +19,7 @@ use Rattle.sets.proofs.Laws.{bit-none}
 use Rattle.sets.proofs.Members.{elements-none}
 use Rattle.picture.specs.declared.matching.Number.{Number}
 use Rattle.picture.specs.Text.{labels}
-use Rattle.picture.specs.Kept.Matched.{Spans, NumberFound, Labelled, LabelFound}
+use Rattle.picture.specs.Kept.Matched.{Spans, Numbered, NumberRead, Labelled, LabelRead}
 use Rattle.picture.specs.Kept.Rows.{label_end}
 use Rattle.picture.proofs.LineParts.{separator, labels-snoc, separator-snoc, separator-some, separator-later}
 use Rattle.picture.proofs.LineParts.{label-breaks}
@@ -61,15 +61,6 @@ module _ (text : List ℕ) (at : ℕ) where
             };
       }
 
-  label-refused : (end : ℕ) → ((q : ℕ → Bool) (n : ℕ) (rest : List ℕ) → Labelled text at q n rest → ⊥)
-      → LabelFound text at (record { machines = 0; end = end })
-  label-refused end never =
-      record {
-        few = λ i t. absurd (true-false t (bit-none i));
-        spans = λ l. absurd (let f : ⊥ = omega arith in f);
-        only = λ q n rest h. absurd (never q n rest h);
-      }
-
   -- One number more
 
   module _ {machines end : ℕ} {more : Bool} (u : LabelUpto machines end more) (on : more ≡ true) where
@@ -85,62 +76,60 @@ module _ (text : List ℕ) (at : ℕ) where
     pub label-onward : end + 1 ≤ length text
     label-onward = omega (arith, label_inside)
 
-  module _ {machines end : ℕ} {more : Bool} (u : LabelUpto machines end more) (on : more ≡ true) {r : Number}
-      (found : NumberFound text (end + 1) machines 32 r) where
-    -- the next that can stand there is the one that was read
-    record Next (q : ℕ → Bool) (n : ℕ) (rest : List ℕ) : Type 0 where
-      fits : r.fits ≡ true
+    -- the next that can stand there
+    record Coming (q : ℕ → Bool) (n : ℕ) (rest : List ℕ) : Type 0 where
+      number : ℕ
       todo : List ℕ
-      all_are : filter q (up_to n) ≡ elements machines ++ (r.value ∷ todo)
-      stand : drop r.end text ≡ labels 32 todo ++ (label_end ++ rest)
+      all_are : filter q (up_to n) ≡ elements machines ++ (number ∷ todo)
+      there : Numbered text (end + 1) machines 32 number (labels 32 todo ++ (label_end ++ rest))
 
-    next-is : (q : ℕ → Bool) (n : ℕ) (rest : List ℕ) → Labelled text at q n rest → Next q n rest
+    coming : (q : ℕ → Bool) (n : ℕ) (rest : List ℕ) → Labelled text at q n rest → Coming q n rest
     unfolding labels
-    next-is q n rest h =
+    coming q n rest h =
         let left = u.left q n rest h in
         among left.todo left.all_are left.stand
       where
         among : (todo : List ℕ) → filter q (up_to n) ≡ elements machines ++ todo
-            → drop end text ≡ labels (separator 34 (elements machines)) todo ++ (label_end ++ rest) → Next q n rest
+            → drop end text ≡ labels (separator 34 (elements machines)) todo ++ (label_end ++ rest) → Coming q n rest
         among [] all_are stand =
             let some = ap length (all_are ∙ append-nil (elements machines)) in
             let later = separator-later (elements machines) (omega (arith, h.some, some)) in
-            absurd (let f : ⊥ = omega (arith, byte-there text end stand, byte u on, later) in f)
+            absurd (let f : ⊥ = omega (arith, byte-there text end stand, byte, later) in f)
         among (j ∷ todo) all_are stand =
-            let there = behind text end (separator 34 (elements machines) ∷ []) stand ∙ append_assoc (decimal j) _ _ in
             let few = h.few in
             let small = next-below q n machines j todo all_are in
-            let above = next-rises q n machines j todo all_are (λ i t. omega (arith, u.few i t)) in
-            let (fits, same) = found.only j _ (omega arith) above (label-breaks todo rest) there in
             record {
-              fits = fits;
+              number = j;
               todo = todo;
-              all_are = rw same all_are;
-              stand = spans-rest (found.spans fits) (rw same there);
+              all_are = all_are;
+              there = record {
+                below = omega arith;
+                above = next-rises q n machines j todo all_are (λ i t. omega (arith, u.few i t));
+                ends = label-breaks todo rest;
+                stands = behind text end (separator 34 (elements machines) ∷ []) stand ∙ append_assoc (decimal j) _ _;
+              };
             }
 
-    pub label-stops : (last : ℕ) → not r.fits ≡ true → LabelFound text at (record { machines = 0; end = last })
-    label-stops last f = label-refused last (λ q n rest h. true-false (next-is q n rest h).fits (not-true _ f))
+    pub label-stops : ((j : ℕ) (rest : List ℕ) → Numbered text (end + 1) machines 32 j rest → ⊥)
+        → (q : ℕ → Bool) (n : ℕ) (rest : List ℕ) → Labelled text at q n rest → ⊥
+    label-stops none q n rest h = none _ _ (coming q n rest h).there
 
-    module _ (some : not r.fits ≡ false) where
-      fits : r.fits ≡ true
-      fits = not-false _ some
-
+    module _ {r : Number} (found : NumberRead text (end + 1) machines 32 r) where
       pub label_small : r.value < 64
-      label_small = omega (arith, found.below fits)
+      label_small = omega (arith, found.below)
 
       pub label-less : length text - r.end < length text - end
-      label-less = let s = found.spans fits in omega (arith, s.place, s.inside)
+      label-less = let s = found.spans in omega (arith, s.place, s.inside)
 
       pub label-next : {machines' : ℕ} {more' : Bool} → machines' ≡ union machines (alone r.value)
           → more' ≡ eqb (get_or text r.end 0) 32 → LabelUpto machines' r.end more'
       label-next {machines'} m g =
-          let small = found.below fits in
+          let small = found.below in
           let now-are : elements machines' ≡ elements machines ++ (r.value ∷ []) =
-          ap elements m ∙ elements-more machines r.value (omega arith) (found.above fits) in
+          ap elements m ∙ elements-more machines r.value (omega arith) found.above in
           let s : separator 34 (elements machines') ≡ 32 =
           ap (separator 34) now-are ∙ separator-snoc 34 r.value (elements machines) in
-          let one = spans-then (spans-byte (byte u on) (separator-some (elements machines))) (found.spans fits) in
+          let one = spans-then (spans-byte byte (separator-some (elements machines))) found.spans in
           record {
             few = grown-below machines u.few small m;
             spans = rw (now-are, labels-snoc 34 r.value (elements machines)) (spans-then u.spans one);
@@ -148,13 +137,15 @@ module _ (text : List ℕ) (at : ℕ) where
             some = λ f. rw now-are (omega (arith, length-append (elements machines) (r.value ∷ [])));
             ends = λ f. eqb-false _ 32 (sym g ∙ f);
             left = λ q n rest h.
-                let next = next-is q n rest h in
+                let next = coming q n rest h in
+                let same : r.value ≡ next.number = found.only next.number _ next.there in
+                let all_are : filter q (up_to n) ≡ elements machines ++ (r.value ∷ next.todo) = rw same next.all_are in
                 record {
                   todo = next.todo;
-                  all_are = next.all_are
+                  all_are = all_are
                       ∙ sym (ap (λ is. is ++ next.todo) now-are
                       ∙ append_assoc (elements machines) (r.value ∷ []) next.todo);
-                  stand = rw s next.stand;
+                  stand = rw s (spans-rest found.spans (rw same next.there.stands));
                 };
           }
 
@@ -182,20 +173,19 @@ module _ (text : List ℕ) (at : ℕ) where
     abbrev closes : Bool
     closes = starts_with label_end (drop end text)
 
-    pub label-other : {b : Bool} (last : ℕ) → b ≡ closes → not b ≡ true
-        → LabelFound text at (record { machines = 0; end = last })
-    label-other last is f =
-        label-refused last (λ q n rest h.
-        true-false (is ∙ starts-there label_end rest (ended q n rest h).stand) (not-true _ f))
+    pub label-other : {b : Bool} → b ≡ closes → b ≡ false
+        → (q : ℕ → Bool) (n : ℕ) (rest : List ℕ) → Labelled text at q n rest → ⊥
+    label-other is f q n rest h = true-false (is ∙ starts-there label_end rest (ended q n rest h).stand) f
 
     pub label-behind : length text * 1 < 2 ^ 63 → Fits w64 (end + 4)
     label-behind l = omega (arith, u.spans.inside)
 
-    pub label-ends : {b : Bool} → b ≡ closes → not b ≡ false
-        → LabelFound text at (record { machines = machines; end = end + 4 })
+    pub label-ends : {b : Bool} → b ≡ closes → b ≡ true
+        → LabelRead text at (record { machines = machines; end = end + 4 })
     label-ends is t =
         record {
           few = u.few;
-          spans = λ l. spans-then u.spans (spans-bytes label_end u.spans.inside (sym is ∙ not-false _ t));
+          some = u.some off;
+          spans = spans-then u.spans (spans-bytes label_end u.spans.inside (sym is ∙ t));
           only = λ q n rest h. sym (ended q n rest h).all_are;
         }

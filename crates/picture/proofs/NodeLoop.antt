@@ -1,20 +1,20 @@
 -- The nodes of a text, read one after the other.
 -- Assumes nothing.
-use Prim.Native.Nat.{ℕ, ◌+◌, ◌-◌, ◌≤◌, ◌<◌}
+use Prim.Native.Nat.{ℕ, suc, ◌+◌, ◌-◌, ◌≤◌, ◌<◌}
 use mathlib.Core.Path.{◌≡◌, sym, ap, subst, ◌∙◌}
 use mathlib.Core.Logic.{⊎_elim}
 use mathlib.Core.List.{List, ◌∷◌, ◌++◌, flat_map, Memᴰ}
-use mathlib.Core.Bool.{Bool, true, false, not, ◌&&◌}
+use mathlib.Core.Bool.{Bool, true, false, ◌&&◌}
 use native.Mathlib.Numerals.{add-one}
 use native.Mathlib.Omega.{arith}
-use borrow.Author.Tests.{eq-eqb, eqb-true, eqb-false, ne_eqb, lt-ltb, ltb-true, not-true, not-false}
+use borrow.Author.Tests.{lt-ltb, ltb-true}
 use mir.Val.{Fits}
 use mir.Syntax.{w8}
 use lib.Dec.{eqb, ltb}
 use lib.ListN.{length, get_or, drop}
 use Rattle.common.specs.Bits.{bit}
 use Rattle.common.specs.Lists.{up_to}
-use Rattle.common.proofs.Bools.{true-false, false-of-not-true, and_intro, and_left, and_right, not_of_false}
+use Rattle.common.proofs.Bools.{true-false, false-of-not-true, and_intro, and_left, and_right}
 use Rattle.common.proofs.Least.{last-or-below}
 use Rattle.common.proofs.Members.{up_to-below}
 use Rattle.common.proofs.Sums.{flat_map-cong}
@@ -28,9 +28,9 @@ use Rattle.plan.specs.Groups.{Grouping, group_of, group_count, members}
 use Rattle.plan.proofs.ModeDigits.{member_of}
 use Rattle.picture.specs.declared.matching.Label.{Label}
 use Rattle.picture.specs.Text.{line_start}
-use Rattle.picture.specs.Kept.Matched.{Spans, NodeFound, labelled}
+use Rattle.picture.specs.Kept.Matched.{Spans, LineLabelled, NodeRead, labelled}
 use Rattle.picture.specs.Kept.Rows.{label_start, node_of}
-use Rattle.picture.specs.Kept.Matched.{NodesStand, Grouped, NodesFound}
+use Rattle.picture.specs.Kept.Matched.{NodesStand, Grouped, NodesRead}
 use Rattle.picture.proofs.LineParts.{node_start, start-parts, node-begins}
 use Rattle.picture.proofs.Spanning.{spans-none}
 use Rattle.picture.proofs.Spanning.{pieces-next, pieces_end}
@@ -64,15 +64,6 @@ module _ (text : List ℕ) where
         same = λ groups rest g j h. absurd (let f : ⊥ = omega arith in f);
       }
 
-  nodes-refused : (numbers : List ℕ) → ((groups : Grouping) (rest : List ℕ) → Grouped text groups rest → ⊥)
-      → NodesFound text numbers (record { seen = 0; count = 0; end = 0 })
-  nodes-refused numbers never =
-      record {
-        count = omega arith;
-        stand = λ l. absurd (let f : ⊥ = omega arith in f);
-        only = λ groups rest g. absurd (never groups rest g);
-      }
-
   module _ {numbers : List ℕ} {seen k at : ℕ} (u : NodesUpto numbers seen k at) where
     -- the nodes that were read are those of the grouping
     spans-same : (groups : Grouping) (rest : List ℕ) → Grouped text groups rest
@@ -94,11 +85,11 @@ module _ (text : List ℕ) where
         and_intro (lt-ltb k 32 (omega arith)) (rw there (node-begins k (members groups k) _ (g.some k l)))
 
     pub nodes-end : {o : Bool} → o ≡ opens → o ≡ false
-        → NodesFound text numbers (record { seen = seen; count = k; end = at })
+        → NodesRead text numbers (record { seen = seen; count = k; end = at })
     nodes-end e f =
         record {
           count = u.inside;
-          stand = λ l. u.stand;
+          stand = u.stand;
           only = λ groups rest g.
               let n : ¬ (k < group_count groups) = λ l. true-false (e ∙ line-opens groups rest g l) f in
               let m = u.not_more groups rest g in
@@ -142,28 +133,35 @@ module _ (text : List ℕ) where
           let m = u.not_more groups rest g in
           omega arith
 
-      module _ {l : Label} (found : NodeFound text at k l) where
+      -- the label of the grouping stands there
+      own-label : (groups : Grouping) (rest : List ℕ) (g : Grouped text groups rest)
+          → LineLabelled text at k (λ i. eqb (group_of groups i) k) (length groups)
+          (flat_map (λ j. nodes_of groups (suc k + j)) (up_to (group_count groups - suc k)) ++ rest)
+      unfolding members
+      own-label groups rest g =
+          let h = node-more groups rest g in
+          record {
+            few = g.few-machines;
+            some = g.some k h;
+            stands = pieces-next (nodes_of groups) (group_count groups) k rest (spans-same groups rest g) g.stands h;
+          }
+
+      pub node-stops : ((q : ℕ → Bool) (n : ℕ) (rest : List ℕ) → LineLabelled text at k q n rest → ⊥)
+          → (groups : Grouping) (rest : List ℕ) → Grouped text groups rest → ⊥
+      node-stops none groups rest g = none _ _ _ (own-label groups rest g)
+
+      module _ {l : Label} (found : NodeRead text at k l) where
         -- the label has the machines of the grouping
         label_same : (groups : Grouping) (rest : List ℕ) → Grouped text groups rest
             → elements l.machines ≡ members groups k
         unfolding members
-        label_same groups rest g =
-            let h = node-more groups rest g in
-            found.only (λ i. eqb (group_of groups i) k) (length groups) _ g.few-machines (g.some k h)
-            (pieces-next (nodes_of groups) (group_count groups) k rest (spans-same groups rest g) g.stands h)
+        label_same groups rest g = found.only _ _ _ (own-label groups rest g)
 
-        abbrev fresh : Bool
-        fresh = not (eqb l.machines 0) && eqb (both l.machines seen) 0
-
-        is-fresh : (groups : Grouping) (rest : List ℕ) → Grouped text groups rest → fresh ≡ true
-        is-fresh groups rest g =
+        -- and so none that was seen
+        is-new : (groups : Grouping) (rest : List ℕ) → Grouped text groups rest → both l.machines seen ≡ 0
+        is-new groups rest g =
             let same = label_same groups rest g in
-            let h = node-more groups rest g in
-            and_intro
-            (not_of_false (ne_eqb l.machines 0 (λ e.
-            let none = sym same ∙ ap elements e ∙ elements-none in
-            let f : ⊥ = omega (arith, g.some k h, ap length none) in f)))
-            (eq-eqb _ 0 (no_bits (λ i. bit-both l.machines seen i ∙ false-of-not-true (λ b.
+            no_bits (λ i. bit-both l.machines seen i ∙ false-of-not-true (λ b.
             let new = and_left _ _ b in
             let old = and_right (bit l.machines i) _ b in
             let j = get_or numbers i 0 in
@@ -172,34 +170,26 @@ module _ (text : List ℕ) where
             let own = member_of groups k (subst (λ is. Memᴰ i is) same (bit-element l.machines (omega arith) new)) in
             let other = member_of groups j
             (subst (λ is. Memᴰ i is) (u.same groups rest g j lower) (is-labelled numbers seen (omega arith) old)) in
-            let f : ⊥ = omega arith in f))))
+            let f : ⊥ = omega arith in f))
 
-        pub node-stops : {b : Bool} → b ≡ fresh → not b ≡ true
-            → NodesFound text numbers (record { seen = 0; count = 0; end = 0 })
-        node-stops is f =
-            nodes-refused numbers (λ groups rest g. true-false (is ∙ is-fresh groups rest g) (not-true _ f))
+        pub node-again : {b : ℕ} → b ≡ both l.machines seen → (b ≡ 0 → ⊥)
+            → (groups : Grouping) (rest : List ℕ) → Grouped text groups rest → ⊥
+        node-again is f groups rest g = f (is ∙ is-new groups rest g)
 
-        module _ {b : Bool} (is : b ≡ fresh) (f : not b ≡ false) where
-          new : fresh ≡ true
-          new = sym is ∙ not-false _ f
+        not_none : l.machines ≡ 0 → ⊥
+        not_none e = absurd (let f : ⊥ = omega (arith, found.some, ap (λ s. length (elements s)) e, ap length elements-none) in f)
 
-          apart : both l.machines seen ≡ 0
-          apart = eqb-true _ 0 (and_right (not (eqb l.machines 0)) _ new)
-
-          not_none : l.machines ≡ 0 → ⊥
-          not_none = eqb-false l.machines 0 (not-true _ (and_left _ _ new))
-
-          pub node-next : {after : List ℕ} {seen' : ℕ} → Marked numbers l.machines k after
-              → seen' ≡ union seen l.machines → NodesUpto after seen' (k + 1) l.end
-          node-next {after} marked e =
-              let z = not_none in
-              rw (e, add-one k) (record {
-                inside = node-few;
-                stand = stand-next u.stand apart not_none found.few marked (found.spans (omega arith));
-                not_more = λ groups rest g. node-more groups rest g;
-                same = λ groups rest g j h.
-                    ⊎_elim
-                    (λ q. rw q (labelled-new seen apart u.stand.below marked ∙ label_same groups rest g))
-                    (λ s. labelled-same seen apart u.stand.below marked j s ∙ u.same groups rest g j s)
-                    (last-or-below h);
-              })
+        pub node-next : {b : ℕ} {after : List ℕ} {seen' : ℕ} → b ≡ both l.machines seen → b ≡ 0
+            → Marked numbers l.machines k after → seen' ≡ union seen l.machines → NodesUpto after seen' (k + 1) l.end
+        node-next {after = after} is z marked e =
+            let apart = sym is ∙ z in
+            rw (e, add-one k) (record {
+              inside = node-few;
+              stand = stand-next u.stand apart not_none found.few marked found.spans;
+              not_more = λ groups rest g. node-more groups rest g;
+              same = λ groups rest g j h.
+                  ⊎_elim
+                  (λ q. rw q (labelled-new seen apart u.stand.below marked ∙ label_same groups rest g))
+                  (λ s. labelled-same seen apart u.stand.below marked j s ∙ u.same groups rest g j s)
+                  (last-or-below h);
+            })

@@ -12,17 +12,15 @@ ghost use Rattle.picture.specs.Kept.Shown.{Shows, shown, Shown};
 
 use crate::lines::put;
 use crate::matching::matched;
-use crate::rows::{
-    all_edges_length, all_pairs_length, nodes_length, put_all_edges, put_all_pairs, put_nodes,
-};
+use crate::rows::{Edges, Node, Pairs, put_rows, rows_length};
 use crate::turns::all_in_turn;
 use plan::partition::members;
 use plan::sizing::count;
 use sheet::index::Sheet;
-use sheet::refusal::{Cause, Length, Verdict};
+use sheet::refusal::{Cause, Refusal};
 
 // Writes the text of a picture by the machines and the targets of each group, if it fits: 12.
-fn write_rows(out: &mut [u8], members: &[u64], targets: &[u64]) -> Length
+fn write_rows(out: &mut [u8], members: &[u64], targets: &[u64]) -> Result<usize, Refusal>
     requires { (length members.now ≤ 32) × (length targets.now ≤ 32) }
     ensures reply { measured_of result ≡ length_of (fitted
         (text_rows members.now targets.now) (length out.old)) }
@@ -30,19 +28,19 @@ fn write_rows(out: &mut [u8], members: &[u64], targets: &[u64]) -> Length
         ≡ output_after (fitted (text_rows members.now targets.now)
         (length out.old)) out.old }
 {
-    let length = 19 + nodes_length(members) + all_edges_length(targets);
+    let length = 19 + rows_length::<Node>(members) + rows_length::<Edges>(targets);
     if out.len() < length {
-        return Length::Refused(Cause::WrongBuffer, 0);
+        return Err(Cause::WrongBuffer.at(0));
     }
     let first = put(out, 0, b"digraph groups {\n");
-    let nodes = put_nodes(out, first, members);
-    let edges = put_all_edges(out, nodes, targets);
+    let nodes = put_rows::<Node>(out, first, members);
+    let edges = put_rows::<Edges>(out, nodes, targets);
     put(out, edges, b"}\n");
-    Length::Bytes(length)
+    Ok(length)
 }
 
 // Writes the text of a picture, if it fits: 12.
-fn write_text(out: &mut [u8], numbers: &[u8], targets: &[u64]) -> Length
+fn write_text(out: &mut [u8], numbers: &[u8], targets: &[u64]) -> Result<usize, Refusal>
     requires { Shows numbers.now targets.now }
     ensures reply { measured_of result ≡ length_of (fitted
         (text_of (shown numbers.now targets.now)) (length out.old)) }
@@ -56,7 +54,7 @@ fn write_text(out: &mut [u8], numbers: &[u8], targets: &[u64]) -> Length
 }
 
 // Writes a picture in bytes, if they fit: 12.
-fn write_bytes(out: &mut [u8], numbers: &[u8], targets: &[u64]) -> Length
+fn write_bytes(out: &mut [u8], numbers: &[u8], targets: &[u64]) -> Result<usize, Refusal>
     requires { Shows numbers.now targets.now }
     ensures reply { measured_of result ≡ length_of (fitted
         (picture_bytes (shown numbers.now targets.now)) (length out.old)) }
@@ -65,18 +63,18 @@ fn write_bytes(out: &mut [u8], numbers: &[u8], targets: &[u64]) -> Length
         (length out.old)) out.old }
 {
     let n = numbers.len();
-    let length = 1 + n + all_pairs_length(targets);
+    let length = 1 + n + rows_length::<Pairs>(targets);
     if out.len() < length {
-        return Length::Refused(Cause::WrongBuffer, 0);
+        return Err(Cause::WrongBuffer.at(0));
     }
     out[0] = n as u8;
     let at = put(out, 1, numbers);
-    put_all_pairs(out, at, targets);
-    Length::Bytes(length)
+    put_rows::<Pairs>(out, at, targets);
+    Ok(length)
 }
 
 // Draws a sheet that was read.
-fn draw_read(file: &[u8], sheet: Sheet, out: &mut [u8]) -> Length
+fn draw_read(file: &[u8], sheet: Sheet, out: &mut [u8]) -> Result<usize, Refusal>
     requires { Indexed file.now sheet }
     ensures reply { (m : Model) → Indexes file.now sheet m
         → measured_of result ≡ length_of (fitted (text_of (picture_of m)) (length out.old)) }
@@ -92,45 +90,46 @@ fn draw_read(file: &[u8], sheet: Sheet, out: &mut [u8]) -> Length
 }
 
 // Draws a sheet: writes the text of its picture, and replies the length.
-pub fn draw(file: &[u8], out: &mut [u8]) -> Length
+pub fn draw(file: &[u8], out: &mut [u8]) -> Result<usize, Refusal>
     ensures reply { measured_of result ≡ length_of (graph_reply file.now (length out.old)) }
     ensures written { out.new
         ≡ output_after (graph_reply file.now (length out.old)) out.old }
 {
-    let reading = sheet::scan::read(file);
-    let verdict = reading.verdict;
-    let Verdict::Refused(cause, place) = verdict else {
-        return draw_read(file, reading.sheet, out);
-    };
-    Length::Refused(cause, place)
+    let sheet = sheet::scan::read(file)?;
+    draw_read(file, sheet, out)
 }
 
 // Reads a text that was matched: it is refused where a number is out of turn.
-fn read_matched(text: &[u8], numbers: &[u8], targets: &[u64], out: &mut [u8]) -> Length
+fn read_matched(
+    text: &[u8],
+    numbers: &[u8],
+    targets: &[u64],
+    out: &mut [u8],
+) -> Result<usize, Refusal>
     requires { Shown text.now numbers.now targets.now }
     ensures reply { measured_of result ≡ length_of (read_reply text.now (length out.old)) }
     ensures written { out.new
         ≡ output_after (read_reply text.now (length out.old)) out.old }
 {
     if !all_in_turn(numbers, targets) {
-        return Length::Refused(Cause::NotAPicture, 0);
+        return Err(Cause::NotAPicture.at(0));
     }
     write_bytes(out, numbers, targets)
 }
 
 // Reads a picture: writes its groups and edges in bytes, and replies how many.
-pub fn read(text: &[u8], out: &mut [u8]) -> Length
+pub fn read(text: &[u8], out: &mut [u8]) -> Result<usize, Refusal>
     ensures reply { measured_of result ≡ length_of (read_reply text.now (length out.old)) }
     ensures written { out.new
         ≡ output_after (read_reply text.now (length out.old)) out.old }
 {
-    let found = matched(text);
-    let n = found.machines;
-    if n == 0 {
-        return Length::Refused(Cause::NotAPicture, 0);
-    }
-    let groups = found.groups;
-    let numbers = found.numbers;
-    let targets = found.targets;
-    read_matched(text, &numbers[..n], &targets[..groups], out)
+    let Some(found) = matched(text) else {
+        return Err(Cause::NotAPicture.at(0));
+    };
+    read_matched(
+        text,
+        &found.numbers[..found.machines],
+        &found.targets[..found.groups],
+        out,
+    )
 }

@@ -47,11 +47,9 @@ fn put_labels(out: &mut [u8], at: usize, machines: u64) -> usize
 {
     let mut end = at;
     let mut before: u8 = b'"';
-    let mut rest = machines;
-    while rest != 0 {
-        end = put_number(out, end, before, sets::lowest(rest));
+    for i in sets::each(machines) {
+        end = put_number(out, end, before, i);
         before = b' ';
-        rest = sets::rest(rest);
     }
     end
 }
@@ -87,10 +85,8 @@ pub fn put_edges(out: &mut [u8], at: usize, targets: u64, a: usize) -> usize
     ensures written { out.new ≡ written at (edge_row targets a) out.old }
 {
     let mut end = at;
-    let mut rest = targets;
-    while rest != 0 {
-        end = put_edge(out, end, a, sets::lowest(rest));
-        rest = sets::rest(rest);
+    for k in sets::each(targets) {
+        end = put_edge(out, end, a, k);
     }
     end
 }
@@ -106,17 +102,15 @@ fn put_pair(out: &mut [u8], at: usize, a: usize, k: usize) -> usize
     at + 2
 }
 
-// Writes the edges from a group in bytes.
+// Writes the edges from a group in bytes. Not one function with `put_edges`: a trait with two impls is more than the two loops.
 pub fn put_pairs(out: &mut [u8], at: usize, targets: u64, a: usize) -> usize
     requires { (at + length (pair_row targets a) ≤ length out.old) × (a < 64) }
     ensures end { result ≡ at + length (pair_row targets a) }
     ensures written { out.new ≡ written at (pair_row targets a) out.old }
 {
     let mut end = at;
-    let mut rest = targets;
-    while rest != 0 {
-        end = put_pair(out, end, a, sets::lowest(rest));
-        rest = sets::rest(rest);
+    for k in sets::each(targets) {
+        end = put_pair(out, end, a, k);
     }
     end
 }

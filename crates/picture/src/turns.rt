@@ -16,12 +16,9 @@ fn machines_of(members: &[u64], groups: u64) -> u64
     requires { (g : ℕ) → bit groups g ≡ true → g < length members.now }
     ensures { Union members.now groups result }
 {
-    let mut rest = groups;
     let mut r: u64 = 0;
-    while rest != 0 {
-        let g = sets::lowest(rest);
+    for g in sets::each(groups) {
         r = sets::join(r, members[g]);
-        rest = sets::rest(rest);
     }
     r
 }
@@ -47,9 +44,7 @@ pub fn all_in_turn(numbers: &[u8], targets: &[u64]) -> bool
     let mut waiting: u64 = 0;
     let mut later: u64 = 0;
     let mut held: u64 = 0;
-    let mut k = targets.len();
-    while 0 < k {
-        k -= 1;
+    for k in (0..targets.len()).rev() {
         let new = sets::minus(targets[k], waiting);
         waiting = sets::join(waiting, targets[k]);
         later = sets::join(later, machines[k]);

@@ -10,10 +10,11 @@ use borrow.Author.Tests.{eqb-true, eq-eqb}
 use lib.Dec.{eqb}
 use lib.ListN.{length, drop, take-append-drop}
 use lib.Seq.{drop-drop}
+use Rattle.std.specs.Prelude.{Option, Some, None}
 use Rattle.common.proofs.Bools.{true-false, and_intro, and_left, and_right}
 use Rattle.common.proofs.Places.{Stands}
 use Rattle.sheet.specs.declared.record.Record.{Record}
-use Rattle.sheet.specs.declared.record.Record.TheVariants.{Whole, Cut}
+use Rattle.sheet.specs.Record.{whole}
 use Rattle.sheet.specs.Record.{byte, record_at, part, two_bytes, record_of}
 use Rattle.sheet.proofs.Records.{WholeAt, whole-at, whole_here}
 use Rattle.sheet.proofs.Written.{record-read, record-back}
@@ -44,18 +45,18 @@ module _ {s : List ℕ} {at : ℕ} where
   unfolding has_record
   shown-whole kind n h = go (record_at s at) refl h
     where
-      go : (r : Record) → record_at s at ≡ r → is_whole r kind n ≡ true → WholeAt s at kind (at + 4) n
-      go (Whole other start len) e t =
+      go : (r : Option Record) → record_at s at ≡ r → is_whole r kind n ≡ true → WholeAt s at kind (at + 4) n
+      go (Some x) e t =
           let w = whole-at s at e in
-          let k : other ≡ kind = eqb-true _ _ (and_left _ _ t) in
-          let l : len ≡ n = eqb-true _ _ (and_right (eqb other kind) _ t) in
+          let k : x.kind ≡ kind = eqb-true _ _ (and_left _ _ t) in
+          let l : x.len ≡ n = eqb-true _ _ (and_right (eqb x.kind kind) _ t) in
           record {
             starts = refl;
             length-word = sym l ∙ w.length-word;
             kind-word = sym k ∙ w.kind-word;
             within = omega (arith, w.starts, w.within);
           }
-      go Cut e t = absurd (true-false t refl)
+      go None e t = absurd (true-false t refl)
 
 -- In a file of bytes a record that is seen stands there
 
@@ -63,7 +64,7 @@ pub record-rebuilt : (s : List ℕ) → ((i : ℕ) → byte s i < 256) → (at k
     → next ≡ at + 4 + n → drop at s ≡ record_of kind (part s (at + 4) n) ++ drop next s
 record-rebuilt s bytes at kind n next h e =
     let w = shown-whole kind n h in
-    let here : record_at s at ≡ Whole kind (at + 4) n
+    let here : record_at s at ≡ whole kind (at + 4) n
     = whole_here s at (omega (arith, w.within, w.length-word)) ∙ rw (← w.kind-word, ← w.length-word) in
     let behind : at + (4 + n) ≡ next = omega arith in
     sym (take-append-drop (4 + n) (drop at s))

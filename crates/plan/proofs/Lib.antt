@@ -1,5 +1,4 @@
 pub mod ArrayLoops
-pub mod Asking
 pub mod Bounds
 pub mod Bytes
 pub mod CappedSizes
@@ -11,6 +10,7 @@ pub mod Counted
 pub mod DigitSets
 pub mod Distances
 pub mod Entries
+pub mod EachLoop
 pub mod EntriesSame
 pub mod EntryBytes
 pub mod EntryRoutes
@@ -62,7 +62,7 @@ pub mod PlannedStill
 pub mod Planning
 pub mod PutLoop
 pub mod Radix
-pub mod ReachLoop
+pub mod NamesLoop
 pub mod ReadBack
 pub mod Rebuilt
 pub mod RecordTests

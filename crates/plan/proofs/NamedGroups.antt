@@ -4,7 +4,7 @@
 use Prim.Native.Nat.{ℕ, ◌+◌, ◌^◌, ◌≤◌, ◌<◌}
 use mathlib.Core.Path.{◌≡◌, sym, ap, ◌∙◌}
 use mathlib.Core.List.{List}
-use mathlib.Core.Bool.{Bool, true, false, not, ◌&&◌, ◌||◌, or-false}
+use mathlib.Core.Bool.{Bool, false, not, ◌&&◌, ◌||◌, or-false}
 use native.Mathlib.Omega.{arith}
 use borrow.Author.Tests.{ne_eqb}
 use lib.Dec.{eqb}
@@ -50,9 +50,6 @@ module _ {groups : Grouping} {v : Move} {own : ℕ} where
     adds-counted o = record { bits = λ a h. rw (o.bits a h) }
 
     module _ {counts told : Bool} (e : told ≡ counts) where
-      pub adds-outside : {x : ℕ} → OutsideIn groups v own x → told ≡ true → AddsNamed groups v own counts known x
-      adds-outside o t = record { bits = λ a h. rw (o.bits a h, ← e, t) }
-
       pub adds_none : told ≡ false → AddsNamed groups v own counts known 0
       adds_none f = record { bits = λ a h. rw (bit-none, ← e, f) }
 
@@ -70,10 +67,6 @@ module _ {groups : Grouping} {v : Move} {own : ℕ} where
 -- One turn of the loop over a sheet's moves, by what its calls ensure
 
 module _ {m : Model} {file places : List ℕ} (l : Listed m file places) {v : ℕ} (h : v < length places) where
-  -- its byte among 250
-  pub turn-counted : {numbers : List ℕ} (counted : List ℕ) → Numbered m numbers → length counted ≡ 250 → v < length counted
-  turn-counted counted n e = omega (arith, l.one_each, n.valid.few-moves)
-
   module _ {b : List ℕ} (e : b ≡ body_at file (get_or places v 0)) where
     pub turn-some : 0 < length b
     turn-some = omega (arith, listed-long l h e)

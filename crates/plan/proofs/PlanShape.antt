@@ -69,11 +69,11 @@ module _ {m : Model} (valid : Valid m) {plan : List ℕ} (fit : NumbersFit m pla
           lower ∙ rw o.groups.count
           (lower-named-first m (groups_in m plan) valid all-machines g.named few o.groups.named)
 
-      pub needs-wrong : not b ≡ true → well_shaped m plan ≡ false
-      needs-wrong f = test-fails m plan (λ t. true-false (needs-judged ∙ t.first) (not-true b f))
+      pub needs-wrong : b ≡ false → well_shaped m plan ≡ false
+      needs-wrong f = test-fails m plan (λ t. true-false (needs-judged ∙ t.first) f)
 
       -- and the records, where the rest has passed
-      pub shape-judged : {k : ℕ} → k ≡ first_large g.sizes g.count → g.count ≤ k → not b ≡ false → {c : Bool}
+      pub shape-judged : {k : ℕ} → k ≡ first_large g.sizes g.count → g.count ≤ k → b ≡ true → {c : Bool}
           → c ≡ (tables_fit plan g.sizes starts g.count && ends_at plan (get_or starts g.count 0))
           → c ≡ well_shaped m plan
       unfolding well_shaped
@@ -84,7 +84,7 @@ module _ {m : Model} (valid : Valid m) {plan : List ℕ} (fit : NumbersFit m pla
           records ∙ rw o.groups.count (records-same m (groups_in m plan) few sizes o.groups.sizes refl places plan) in
           let all_small = all-intro _ (up_to (group_count (groups_in m plan))) (λ k l. le-leb _ 64 (sizes k (up_to-below _ l))) in
           judged
-          ∙ sym (rw (fit.shown, fit.no_gap, sym needs-judged ∙ not-false b passed, all_small) refl)
+          ∙ sym (rw (fit.shown, fit.no_gap, sym needs-judged ∙ passed, all_small) refl)
 
 -- The numbers, as they are tested for a sheet, and the groups that are made of them
 module _ {s : List ℕ} {x : Sheet} {m : Model} (i : Indexes s x m) (plan : List ℕ) {b : Bool}

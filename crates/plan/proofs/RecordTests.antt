@@ -9,8 +9,8 @@ use native.Mathlib.Omega.{arith}
 use borrow.Author.Tests.{eq-eqb, ne_eqb}
 use lib.Dec.{eqb}
 use lib.ListN.{length}
+use Rattle.std.specs.Prelude.{Option, Some, None}
 use Rattle.sheet.specs.declared.record.Record.{Record}
-use Rattle.sheet.specs.declared.record.Record.TheVariants.{Whole, Cut}
 use Rattle.sheet.specs.Record.{word, record_at, part, body_of, body_at}
 use Rattle.sheet.specs.Model.{Model}
 use Rattle.sheet.proofs.Records.{whole_here, part_length}
@@ -21,19 +21,19 @@ use Rattle.plan.specs.Kept.Outline.{bound_at}
 use Rattle.plan.proofs.Bytes.{shown-whole}
 
 -- what `read` answers, and the test
-module _ (s : List ℕ) (at : ℕ) {r : Record} (e : r ≡ record_at s at) (k n : ℕ) where
-  pub record-cut : r ≡ Cut → false ≡ has_record s at k n
+module _ (s : List ℕ) (at : ℕ) {r : Option Record} (e : r ≡ record_at s at) (k n : ℕ) where
+  pub record-cut : r ≡ None → false ≡ has_record s at k n
   unfolding has_record
   record-cut q = sym (ap (λ x. is_whole x k n) (sym e ∙ q))
 
-  module _ {kind start len : ℕ} (q : r ≡ Whole kind start len) where
-    pub record-other : (kind ≡ k → ⊥) → false ≡ has_record s at k n
+  module _ {it : Record} (q : r ≡ Some it) where
+    pub record-other : (it.kind ≡ k → ⊥) → false ≡ has_record s at k n
     unfolding has_record
-    record-other h = sym (ap (λ x. is_whole x k n) (sym e ∙ q) ∙ rw (ne_eqb kind k h))
+    record-other h = sym (ap (λ x. is_whole x k n) (sym e ∙ q) ∙ rw (ne_eqb it.kind k h))
 
-    pub record-long : kind ≡ k → eqb len n ≡ has_record s at k n
+    pub record-long : it.kind ≡ k → eqb it.len n ≡ has_record s at k n
     unfolding has_record
-    record-long h = sym (ap (λ x. is_whole x k n) (sym e ∙ q) ∙ rw (eq-eqb kind k h))
+    record-long h = sym (ap (λ x. is_whole x k n) (sym e ∙ q) ∙ rw (eq-eqb it.kind k h))
 
 -- the body of a record that passes
 pub shown-body : (s : List ℕ) (at k n : ℕ) → has_record s at k n ≡ true → body_at s at ≡ part s (at + 4) n

@@ -1,7 +1,7 @@
 -- Where the tables of a plan begin, by the capped sizes of its groups: the loop that computes it, and that it is
 -- `table_at` where no group is large. Then the tests of the records are those of the shape.
 -- Assumes nothing.
-use Prim.Native.Nat.{ℕ, ◌+◌, ◌*◌, ◌≤◌, ◌<◌, zero-le}
+use Prim.Native.Nat.{ℕ, ◌+◌, ◌*◌, ◌≤◌, ◌<◌}
 use mathlib.Core.Path.{◌≡◌, sym, ap, ap₂, ◌∙◌}
 use mathlib.Core.List.{List, map, map-append}
 use mathlib.Core.Bool.{◌&&◌, and_assoc}
@@ -34,38 +34,34 @@ module _ (sizes : List ℕ) (n : ℕ) where
 
   -- The loop: the places of the first k records stand in r, and the next begins at a place
 
-  pub record StartsUpto (count at k : ℕ) (r : List ℕ) : Type 0 where
-    pub within : k ≤ count
+  pub record StartsUpto (at k : ℕ) (r : List ℕ) : Type 0 where
     pub place : at ≡ start_at sizes n k
     pub small : at ≤ 36 + 130054 * k
     pub array : r ≡ pad 33 (map (start_at sizes n) (up_to k))
 
-  module _ {count : ℕ} where
-    pub starts_none : {at : ℕ} → n ≤ 32 → at ≡ 4 + n → StartsUpto count at 0 (replicate 33 0)
-    unfolding up_to
-    starts_none few e =
-        record { within = zero-le; place = e ∙ sym start_first; small = omega arith; array = sym (pad-nil 33) }
+  pub starts_none : {at : ℕ} → n ≤ 32 → at ≡ 4 + n → StartsUpto at 0 (replicate 33 0)
+  unfolding up_to
+  starts_none few e = record { place = e ∙ sym start_first; small = omega arith; array = sym (pad-nil 33) }
 
-    pub starts-next : {at k t : ℕ} {r : List ℕ} → StartsUpto count at k r → k < count → count ≤ 32
-        → t ≡ table_bytes (get_or sizes k 0) → t ≤ 130050 → StartsUpto count (at + (4 + t)) (k + 1) (set r k at)
-    starts-next {k = k} s h few e b =
-        record {
-          within = omega arith;
-          place = rw e (sym (start-next k ∙ rw (← s.place)));
-          small = omega (arith, s.small);
-          array = fills-map 33 (start_at sizes n) s.array (omega arith) s.place;
-        }
+  pub starts-next : {at k t : ℕ} {r : List ℕ} → StartsUpto at k r → k < 32 → t ≡ table_bytes (get_or sizes k 0)
+      → t ≤ 130050 → StartsUpto (at + (4 + t)) (k + 1) (set r k at)
+  starts-next {k = k} s h e b =
+      record {
+        place = rw e (sym (start-next k ∙ rw (← s.place)));
+        small = omega (arith, s.small);
+        array = fills-map 33 (start_at sizes n) s.array (omega arith) s.place;
+      }
 
-    pub starts-end : {at k : ℕ} {r : List ℕ} → StartsUpto count at k r → count ≤ k → count ≤ 32
-        → StartsAt sizes n count (set r k at)
-    starts-end {at} {k} {r} s h few =
-        let whole : set r k at ≡ pad 33 (map (start_at sizes n) (up_to (k + 1))) =
-        fills-map 33 (start_at sizes n) s.array (omega (arith, s.within)) s.place in
-        record {
-          each = λ j l.
-              let b : j < k + 1 = omega arith in
-              rw (whole, get_or-pad) (get_or-map-up_to (start_at sizes n) 0 b);
-        }
+  pub starts-end : {at k count : ℕ} {r : List ℕ} → StartsUpto at k r → k ≡ count → count ≤ 32
+      → StartsAt sizes n count (set r count at)
+  starts-end {at} {k} {count} {r} s e few =
+      let whole : set r count at ≡ pad 33 (map (start_at sizes n) (up_to (count + 1)))
+      = rw (← e) (fills-map 33 (start_at sizes n) s.array (omega arith) s.place) in
+      record {
+        each = λ j l.
+            let b : j < count + 1 = omega arith in
+            rw (whole, get_or-pad) (get_or-map-up_to (start_at sizes n) 0 b);
+      }
 
 -- Where no group is large
 

@@ -1,6 +1,6 @@
 -- The loops that gather, for each group, the other groups that need it.
 -- Assumes nothing.
-use Prim.Native.Nat.{ℕ, ◌+◌, ◌^◌, ◌≤◌, ◌<◌}
+use Prim.Native.Nat.{ℕ, ◌+◌, ◌^◌, ◌<◌}
 use mathlib.Core.Path.{◌≡◌, refl, sym, ap, ◌∙◌}
 use mathlib.Core.List.{List}
 use mathlib.Core.Bool.{Bool, true, false, not, ◌&&◌, ◌||◌, and-false, or-false}
@@ -75,7 +75,6 @@ module _ (before numbers : List ℕ) (machines k : ℕ) where
 
 module _ (next numbers : List ℕ) (n : ℕ) where
   pub record TargetsUpto (i : ℕ) (r : List ℕ) : Type 0 where
-    pub within : i ≤ n
     pub long : length r ≡ 32
     pub bits : (a k : ℕ) → bit (get_or r a 0) k ≡ (not (eqb a k) && some_needs next numbers i a k)
 
@@ -83,7 +82,7 @@ module _ (next numbers : List ℕ) (n : ℕ) where
   unfolding some_needs any up_to
   targets-none e =
       rw e
-      (record { within = omega arith; long = refl; bits = λ a k. rw (get_or-zeros, bit-none, and-false) refl })
+      (record { long = refl; bits = λ a k. rw (get_or-zeros, bit-none, and-false) refl })
 
   pub target_fits : {i k : ℕ} → NumberedNeeds next numbers n → i < n → k ≡ get_or numbers i 0 → k < 32
   target_fits h l e = rw e (h.below _ l)
@@ -97,7 +96,6 @@ module _ (next numbers : List ℕ) (n : ℕ) where
   unfolding some_needs up_to
   targets_next {i} {k} {t} {r} {mid} u h small e size p et =
       record {
-        within = omega arith;
         long = length-set mid k t ∙ size ∙ u.long;
         bits = λ a b.
             rw (add-one i, any_snoc, ← e)
@@ -136,7 +134,5 @@ module _ (next numbers : List ℕ) (n : ℕ) where
           (other-order (eqb a b) _ (some a) (eqb k b) (λ y. by_cases (eqb a b)
           (λ z. absurd (d (eqb-true k b y ∙ sym (eqb-true a b z)))) (λ z. z)))
 
-  pub targets-end : {i : ℕ} {r : List ℕ} → TargetsUpto i r → n ≤ i → TargetSets next numbers n r
-  targets-end {i} u h =
-      let e : i ≡ n = omega (arith, u.within) in
-      record { bits = λ a k. rw (← e) (u.bits a k) }
+  pub targets-end : {i : ℕ} {r : List ℕ} → TargetsUpto i r → i ≡ n → TargetSets next numbers n r
+  targets-end u e = record { bits = λ a k. rw (← e) (u.bits a k) }

@@ -1,4 +1,5 @@
 pub mod CostSets
+pub mod Each
 pub mod Judged
 pub mod Linked
 pub mod Linking

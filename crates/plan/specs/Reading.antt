@@ -1,8 +1,7 @@
 -- Reading a plan back, whoever wrote it: its shape (15), its grouping and its entries.
-use Rattle.std.specs.Prelude.{ℕ, ◌+◌, ◌*◌, List, Bool, true, false, not, ◌&&◌, length, eqb, leb}
+use Rattle.std.specs.Prelude.{ℕ, ◌+◌, ◌*◌, List, Bool, true, false, not, ◌&&◌, length, eqb, leb, Option, Some, None}
 use Rattle.common.specs.Lists.{up_to, all, any, filter}
 use Rattle.sheet.specs.declared.record.Record.{Record}
-use Rattle.sheet.specs.declared.record.Record.TheVariants.{Whole, Cut}
 use Rattle.sheet.specs.Record.{byte, record_at, part}
 use Rattle.sheet.specs.Model.{Model, machine_count}
 use Rattle.plan.specs.Groups.{Grouping, group_of, group_count, moves_of}
@@ -32,9 +31,9 @@ entry_at m plan k p q =
 abbrev pub is_route : Entry → Bool
 is_route e = not (eqb e.distance 255)
 
-abbrev pub is_whole : Record → ℕ → ℕ → Bool
-is_whole (Whole kind start len) k n = eqb kind k && eqb len n
-is_whole Cut k n = false
+abbrev pub is_whole : Option Record → ℕ → ℕ → Bool
+is_whole (Some x) k n = eqb x.kind k && eqb x.len n
+is_whole None k n = false
 
 -- a record of kind k with a body of n bytes begins at a place
 unfoldable pub has_record : List ℕ → ℕ → ℕ → ℕ → Bool

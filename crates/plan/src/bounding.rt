@@ -13,12 +13,10 @@ pub fn bound(named: &[u64], longest: &[u8], count: usize) -> u32
     // A cost for each number that a set can hold; of a group to come, 0.
     let mut costs = [0u32; sets::NUMBERS];
     let mut total: u32 = 0;
-    let mut k: usize = 0;
-    while k < count {
-        let cost = capped((longest[k] as u32) * prepared(&costs, named[k]));
+    for k in 0..count {
+        let cost = capped(u32::from(longest[k]) * prepared(&costs, named[k]));
         costs[k] = cost;
         total = capped(total + cost);
-        k += 1;
     }
     total
 }
@@ -29,11 +27,8 @@ fn prepared(costs: &[u32; sets::NUMBERS], named: u64) -> u32
     ensures { result ≡ move_cost costs.now (elements named) }
 {
     let mut r: u32 = 1;
-    let mut rest = named;
-    while rest != 0 {
-        let a = sets::lowest(rest);
+    for a in sets::each(named) {
         r += costs[a];
-        rest = sets::rest(rest);
     }
     r
 }
@@ -42,8 +37,5 @@ fn prepared(costs: &[u32; sets::NUMBERS], named: u64) -> u32
 fn capped(n: u32) -> u32
     ensures { result ≡ capped_cost n }
 {
-    if Plan::BOUND < n {
-        return Plan::BOUND + 1;
-    }
-    n
+    n.min(Plan::BOUND + 1)
 }

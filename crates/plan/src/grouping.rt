@@ -1,29 +1,27 @@
 // The groups of a sheet: sets of machines that need one another, numbered so that needs come first.
-ghost use Rattle.std.specs.Prelude.{◌≡◌, ◌<◌, ◌≤◌, length, take, replicate};
+ghost use Rattle.std.specs.Prelude.{◌≡◌, ℕ, ◌<◌, ◌≤◌, length, take, replicate, get_or};
 ghost use Rattle.sheet.specs.Model.{Model, machine_count, move_of};
 ghost use Rattle.sheet.specs.Kept.Indexed.{Indexed, Indexes};
 ghost use Rattle.common.specs.Graph.{Graph, distances};
 ghost use Rattle.search.specs.Kept.Search.{Holds};
 ghost use Rattle.plan.specs.Needs.{need_graph};
 ghost use Rattle.plan.specs.Groups.{numbered_upto, groups_of};
-ghost use Rattle.plan.specs.Kept.MachineSets.{NamedIn, ReachSets, Mutual, MutualSets, OutsideSets};
+ghost use Rattle.plan.specs.Kept.MachineSets.{NamedIn, Mutual, Outside};
 ghost use Rattle.plan.specs.Kept.MachineSets.{Grouped, next_group, GroupsBelow, PutInto};
 ghost use Rattle.plan.specs.Kept.MachineSets.{NumberedNeeds, TargetSets};
 ghost use Rattle.plan.specs.Kept.Partition.{NeededBy};
 
 use crate::sizing::{Group, group_of};
-use sheet::index::{Machine, Sheet, move_body};
-use sheet::record::wide;
+use sheet::guard::Guards;
+use sheet::index::{Machine, Moves, Sheet};
 
 // The machines that a move names, from its body.
 fn named(body: &[u8]) -> u64
     ensures { NamedIn (move_of body.now) result }
 {
     let mut r: u64 = 0;
-    let mut at: usize = 4;
-    while at + 1 < body.len() {
-        r = sets::put(r, wide(body[at]));
-        at += 2;
+    for guard in Guards::of(body) {
+        r = sets::put(r, usize::from(guard.machine.0));
     }
     r
 }
@@ -33,30 +31,18 @@ fn needed(s: &[u8], sheet: Sheet) -> [u64; sets::NUMBERS]
     requires { Indexed s.now sheet }
     ensures { (m : Model) → Indexes s.now sheet m → Holds (need_graph m) result }
 {
-    let moves = sheet.moves;
     let all = &sheet.places[..];
-    let places = &all[..moves];
+    let moves = Moves {
+        file: s,
+        places: &all[..sheet.moves],
+    };
     let mut next = [0u64; sets::NUMBERS];
-    let mut v: usize = 0;
-    while v < places.len() {
-        let b = move_body(s, places, v);
-        let i = wide(b[0]);
+    for v in 0..moves.len() {
+        let b = moves.body(v);
+        let i = usize::from(b[0]);
         next[i] = sets::join(next[i], named(b));
-        v += 1;
     }
     next
-}
-
-// Writes, for each of n machines, those that it reaches through needs.
-fn reached(next: &[u64], n: usize, r: &mut [u64])
-    requires { (length next.now ≡ 64) × (n ≤ 64) × (length r.old ≡ 64) }
-    ensures { ReachSets next.now n r.new }
-{
-    let mut i: usize = 0;
-    while i < n {
-        r[i] = search::reach(next, i as u8);
-        i += 1;
-    }
 }
 
 // The machines that a machine reaches and that reach it.
@@ -64,39 +50,32 @@ fn mutual(reach: &[u64], m: Machine) -> u64
     requires { (length reach.now ≡ 64) × (m.0 < 64) }
     ensures { Mutual reach.now m.0 result }
 {
-    let i = wide(m.0);
+    let i = usize::from(m.0);
     let mut r: u64 = 0;
-    let mut rest = reach[i];
-    while rest != 0 {
-        let j = sets::lowest(rest);
+    for j in sets::each(reach[i]) {
         r = sets::put_if(r, j, sets::has(reach[j], i));
-        rest = sets::rest(rest);
     }
     r
 }
 
-// Writes, for each of n machines, its group.
-fn together(reach: &[u64], n: usize, r: &mut [u64])
-    requires { (length reach.now ≡ 64) × (n ≤ 64) × (length r.old ≡ 64) }
-    ensures { MutualSets reach.now n r.new }
+// The machines outside a group that the group needs.
+fn outside(next: &[u64], group: u64) -> u64
+    requires { length next.now ≡ 64 }
+    ensures { Outside next.now group result }
 {
-    let mut i: usize = 0;
-    while i < n {
-        r[i] = mutual(reach, Machine(i as u8));
-        i += 1;
-    }
+    sets::minus(search::union_of(next, group), group)
 }
 
-// Writes, for each of n machines, the machines outside its group that the group needs.
-fn outside(next: &[u64], groups: &[u64], n: usize, r: &mut [u64])
-    requires { (length next.now ≡ 64) × (length groups.now ≡ 64) × (n ≤ 64) × (length r.old ≡ 64) }
-    ensures { OutsideSets next.now groups.now n r.new }
+// A set for each of n machines, by what gives it.
+fn each_of<F: Fn(usize) -> u64>(n: usize, f: F) -> [u64; sets::NUMBERS]
+    requires { (n ≤ 64) × ((i : ℕ) → i < n → F.pre f i) }
+    ensures { (i : ℕ) → i < n → F.post f i (get_or result i 0) }
 {
-    let mut i: usize = 0;
-    while i < n {
-        r[i] = sets::minus(search::union_of(next, groups[i]), groups[i]);
-        i += 1;
+    let mut r = [0u64; sets::NUMBERS];
+    for i in 0..n {
+        r[i] = f(i);
     }
+    r
 }
 
 // Of the groups that are ready for a number, the one with the smallest machine; empty if there is none.
@@ -104,13 +83,10 @@ fn next_group(groups: &[u64], outside: &[u64], numbered: u64, n: usize) -> u64
     requires { (length groups.now ≡ 64) × (length outside.now ≡ 64) × (n ≤ 64) }
     ensures { result ≡ next_group groups.now outside.now numbered n }
 {
-    let mut rest = sets::minus(sets::first(n), numbered);
-    while rest != 0 {
-        let i = sets::lowest(rest);
+    for i in sets::each(sets::minus(sets::first(n), numbered)) {
         if sets::minus(outside[i], numbered) == 0 {
             return groups[i];
         }
-        rest = sets::rest(rest);
     }
     0
 }
@@ -123,15 +99,13 @@ fn number(groups: &[u64], outside: &[u64], n: usize) -> [u8; sets::NUMBERS]
 {
     let mut numbers = [0u8; sets::NUMBERS];
     let mut numbered: u64 = 0;
-    let mut k: usize = 0;
-    while k < n {
+    for k in 0..n {
         let group = next_group(groups, outside, numbered, n);
         if group == 0 {
             return numbers;
         }
         search::mark(&mut numbers, group, k as u8);
         numbered = sets::join(numbered, group);
-        k += 1;
     }
     numbers
 }
@@ -142,12 +116,9 @@ fn by_needs(next: &[u64], n: usize) -> [u8; sets::NUMBERS]
     ensures { (m : Model) → Holds (need_graph m) next.now → n ≡ machine_count m
         → take (machine_count m) result ≡ groups_of m }
 {
-    let mut reach = [0u64; sets::NUMBERS];
-    let mut groups = [0u64; sets::NUMBERS];
-    let mut waits = [0u64; sets::NUMBERS];
-    reached(next, n, &mut reach);
-    together(&reach, n, &mut groups);
-    outside(next, &groups, n, &mut waits);
+    let reach = each_of(n, |i| search::reach(next, i as u8));
+    let groups = each_of(n, |i| mutual(&reach, Machine(i as u8)));
+    let waits = each_of(n, |i| outside(next, groups[i]));
     number(&groups, &waits, n)
 }
 
@@ -166,13 +137,10 @@ fn put_into(into: &mut [u64], numbers: &[u8], machines: u64, group: Group)
         × GroupsBelow numbers.now machines }
     ensures { PutInto into.old numbers.now machines group.0 into.new }
 {
-    let mut rest = machines;
-    while rest != 0 {
-        let j = sets::lowest(rest);
+    for j in sets::each(machines) {
         let own = group_of(numbers, Machine(j as u8));
-        let a = wide(own.0);
-        into[a] = sets::with(into[a], wide(group.0));
-        rest = sets::rest(rest);
+        let a = usize::from(own.0);
+        into[a] = sets::with(into[a], usize::from(group.0));
     }
 }
 
@@ -181,13 +149,11 @@ fn put_targets(next: &[u64], numbers: &[u8], n: usize, targets: &mut [u64])
     requires { NumberedNeeds next.now numbers.now n × (targets.old ≡ replicate 32 0) }
     ensures { TargetSets next.now numbers.now n targets.new }
 {
-    let mut i: usize = 0;
-    while i < n {
+    for i in 0..n {
         let group = group_of(numbers, Machine(i as u8));
-        let k = wide(group.0);
+        let k = usize::from(group.0);
         put_into(targets, numbers, next[i], group);
         targets[k] = sets::without(targets[k], k);
-        i += 1;
     }
 }
 

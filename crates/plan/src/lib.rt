@@ -2,6 +2,7 @@
 #![tactic(auto)]
 
 pub mod bounding;
+pub mod each;
 pub mod grouping;
 pub mod judging;
 pub mod lookup;

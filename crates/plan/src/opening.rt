@@ -18,7 +18,7 @@ pub fn in_shape(plan: &[u8], groups: Groups, starts: &[u32]) -> bool
     let count = groups.count;
     let sizes = groups.sizes;
     let named = groups.named;
-    if first_large(&sizes[..], count) < count {
+    if first_large(&sizes[..], count).is_some() {
         return false;
     }
     if !needs_come_first(&named[..], count) {

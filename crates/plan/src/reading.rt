@@ -1,12 +1,14 @@
 // Reading a plan back, whoever wrote it: whether its records fit, where its tables begin, the bound.
 ghost use Rattle.std.specs.Prelude.{◌≡◌, ◌&&◌, ◌≤◌, ◌<◌, length, get_or};
 ghost use Rattle.sheet.specs.Record.{part};
+ghost use Rattle.sheet.specs.Kept.Kinds.{kind_number};
 ghost use Rattle.plan.specs.Reading.{gapless, has_record};
 ghost use Rattle.plan.specs.Kept.Outline.{Used, lower_named, table_bytes, StartsAt, tables_fit, ends_at, bound_at};
 
 use crate::sizing::{count, group_at};
 use sheet::index::{Machine, Sheet};
-use sheet::record::{Record, body, wide, word_at};
+use sheet::kind::Kind;
+use sheet::record::{body, word_at};
 
 // An entry of a table: a distance and a first move.
 #[derive(Clone, Copy)]
@@ -16,21 +18,16 @@ pub struct Cell {
 }
 
 // Whether a record of a kind with a body of some length begins at a place of a plan.
-fn has_record(plan: &[u8], at: usize, kind: u16, len: usize) -> bool
-    ensures { result ≡ has_record plan.now at kind len }
+fn has_record(plan: &[u8], at: usize, kind: Kind, len: usize) -> bool
+    ensures { result ≡ has_record plan.now at (kind_number kind) len }
 {
-    let Record::Whole {
-        kind: found,
-        start: _,
-        len: size,
-    } = sheet::reader::record_at(plan, at)
-    else {
+    let Some(record) = sheet::reader::record_at(plan, at) else {
         return false;
     };
-    if found != kind {
+    if record.kind != u16::from(u8::from(kind)) {
         return false;
     }
-    size == len
+    record.len == len
 }
 
 // The numbers that occur, below 64.
@@ -39,11 +36,9 @@ fn used(numbers: &[u8]) -> u64
     ensures { Used numbers.now result }
 {
     let mut r: u64 = 0;
-    let mut i: u8 = 0;
-    while wide(i) < numbers.len() {
-        let group = group_at(numbers, Machine(i));
-        r = sets::put(r, wide(group.0));
-        i += 1;
+    for i in 0..numbers.len() {
+        let group = group_at(numbers, Machine(i as u8));
+        r = sets::put(r, usize::from(group.0));
     }
     r
 }
@@ -65,7 +60,7 @@ pub fn numbers_fit(plan: &[u8], n: usize) -> bool
     requires { n ≤ 32 }
     ensures { result ≡ (has_record plan.now 0 16 n && gapless (part plan.now 4 n)) }
 {
-    if has_record(plan, 0, 16, n) {
+    if has_record(plan, 0, Kind::Numbers, n) {
         return without_gaps(body(plan, 0));
     }
     false
@@ -76,12 +71,10 @@ pub fn needs_come_first(named: &[u64], count: usize) -> bool
     requires { (count ≤ 32) × (count ≤ length named.now) }
     ensures { result ≡ lower_named named.now count }
 {
-    let mut k: usize = 0;
-    while k < count {
+    for k in 0..count {
         if sets::down(named[k], k) != 0 {
             return false;
         }
-        k += 1;
     }
     true
 }
@@ -90,7 +83,7 @@ pub fn needs_come_first(named: &[u64], count: usize) -> bool
 fn table_length(size: u8) -> usize
     ensures { (result ≡ table_bytes size) × (result ≤ 130050) }
 {
-    2 * (wide(size) * wide(size))
+    2 * (usize::from(size) * usize::from(size))
 }
 
 // Where each group's record begins, behind the numbers of n machines, and where the record behind the last.
@@ -100,13 +93,11 @@ pub fn starts(sizes: &[u8], count: usize, n: usize) -> [u32; Sheet::MACHINES + 1
 {
     let mut r = [0u32; Sheet::MACHINES + 1];
     let mut at: usize = 4 + n;
-    let mut k: usize = 0;
-    while k < count {
+    for k in 0..count {
         r[k] = at as u32;
         at += 4 + table_length(sizes[k]);
-        k += 1;
     }
-    r[k] = at as u32;
+    r[count] = at as u32;
     r
 }
 
@@ -115,12 +106,11 @@ fn tables_fit(plan: &[u8], sizes: &[u8], starts: &[u32], count: usize) -> bool
     requires { (count ≤ length sizes.now) × (count ≤ length starts.now) }
     ensures { result ≡ tables_fit plan.now sizes.now starts.now count }
 {
-    let mut k: usize = 0;
-    while k < count {
-        if !has_record(plan, starts[k] as usize, 17, table_length(sizes[k])) {
+    for k in 0..count {
+        let len = table_length(sizes[k]);
+        if !has_record(plan, starts[k] as usize, Kind::Table, len) {
             return false;
         }
-        k += 1;
     }
     true
 }
@@ -130,10 +120,10 @@ fn ends(plan: &[u8], at: usize) -> bool
     requires { at < 4294967296 }
     ensures { result ≡ ends_at plan.now at }
 {
-    if !has_record(plan, at, 18, 4) {
+    if !has_record(plan, at, Kind::Bound, 4) {
         return false;
     }
-    if !has_record(plan, at + 8, 3, 0) {
+    if !has_record(plan, at + 8, Kind::End, 0) {
         return false;
     }
     plan.len() == at + 12

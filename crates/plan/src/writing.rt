@@ -4,6 +4,7 @@ ghost use Rattle.sheet.specs.Record.{record_of};
 ghost use Rattle.plan.specs.Bytes.{four_bytes};
 ghost use Rattle.sheet.specs.Kept.Written.{written};
 
+use sheet::kind::Kind;
 use sheet::writing::{put_bytes, put_header, put_two};
 
 // Writes the bound at a place, four bytes.
@@ -20,7 +21,7 @@ pub fn put_start(plan: &mut [u8], numbers: &[u8])
     requires { 4 + length numbers.now ≤ length plan.old }
     ensures { plan.new ≡ written 0 (record_of 16 numbers.now) plan.old }
 {
-    put_header(plan, 0, numbers.len(), 16);
+    put_header(plan, 0, numbers.len(), u8::from(Kind::Numbers));
     put_bytes(plan, 4, numbers);
 }
 
@@ -30,18 +31,14 @@ pub fn put_end(plan: &mut [u8], at: usize, bound: u32)
     ensures { plan.new
         ≡ written at (record_of 18 (four_bytes bound) ++ record_of 3 []) plan.old }
 {
-    put_header(plan, at, 4, 18);
+    put_header(plan, at, 4, u8::from(Kind::Bound));
     put_bound(plan, at + 4, bound);
-    put_header(plan, at + 8, 0, 3);
+    put_header(plan, at + 8, 0, u8::from(Kind::End));
 }
 
 // Writes zeros.
 pub fn clear(bytes: &mut [u8])
     ensures { bytes.new ≡ replicate (length bytes.old) 0 }
 {
-    let mut i: usize = 0;
-    while i < bytes.len() {
-        bytes[i] = 0;
-        i += 1;
-    }
+    bytes.fill(0);
 }

@@ -1,9 +1,10 @@
 // Sets of numbers below 64, each a u64: number i is in the set s where bit i, worth 2 ^ i, is set.
 #![tactic(auto)]
 
-ghost use Rattle.std.specs.Prelude.{◌≡◌, true, false, ◌&&◌, ◌||◌, ℕ, ◌<◌, ◌≤◌, eqb};
+ghost use Rattle.std.specs.Prelude.{◌≡◌, true, false, ◌&&◌, ◌||◌, ℕ, ◌<◌, ◌≤◌, eqb, length};
+ghost use Rattle.std.specs.Iterator.{at_most};
 ghost use Rattle.common.specs.Bits.{bit};
-ghost use Rattle.sets.specs.Kept.Sets.{alone, below, union, both, less, raised, lowered, least};
+ghost use Rattle.sets.specs.Kept.Sets.{alone, below, union, both, less, raised, lowered, least, elements};
 
 // Numbers that a set can hold.
 pub const NUMBERS: usize = 64;
@@ -93,7 +94,7 @@ pub fn without(s: u64, i: usize) -> u64
     minus(s, one(i))
 }
 
-// The least number of a set; 64 for none.
+// The least number of a set; 64 for none, not an Option: it is the one instruction, and who calls it has a set with a number.
 pub fn lowest(s: u64) -> usize
     ensures { result ≡ least s }
 {
@@ -130,4 +131,52 @@ pub fn down(s: u64, k: usize) -> u64
     ensures { result ≡ lowered s k }
 {
     s >> k
+}
+
+// The members of a set that are still to come, least first.
+#[derive(Clone, Copy)]
+pub struct Ascending {
+    pub rest: u64,
+}
+
+// The members of a set, least first: what a loop over the set goes through.
+pub fn each(s: u64) -> Ascending
+    ensures { result.rest ≡ s }
+{
+    Ascending { rest: s }
+}
+
+impl Iterator for Ascending {
+    ghost use Rattle.sets.specs.Kept.Members.{GivesLeast};
+
+    type Item = usize;
+
+    ghost next_gives = { GivesLeast };
+
+    ghost remaining = { λ m. at_most (length (elements m.rest)) };
+
+    fn next(&mut self) -> Option<usize> {
+        if self.rest == 0 {
+            return None;
+        }
+        let i = lowest(self.rest);
+        self.rest = rest(self.rest);
+        Some(i)
+    }
+}
+
+// From the other end: the greatest first.
+impl DoubleEndedIterator for Ascending {
+    ghost use Rattle.sets.specs.Kept.Members.{GivesGreatest};
+
+    ghost next_back_gives = { GivesGreatest };
+
+    fn next_back(&mut self) -> Option<usize> {
+        if self.rest == 0 {
+            return None;
+        }
+        let i = highest(self.rest);
+        self.rest = without(self.rest, i);
+        Some(i)
+    }
 }

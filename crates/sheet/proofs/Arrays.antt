@@ -1,18 +1,14 @@
 -- Arrays with zeros behind what they hold.
 -- Assumes nothing.
 use Prim.Native.Nat.{ℕ, zero, suc, ◌+◌, ◌≤◌, ◌<◌}
-use mathlib.Core.Path.{◌≡◌, sym, ◌∙◌}
+use mathlib.Core.Path.{◌≡◌, ◌∙◌}
 use mathlib.Core.List.{List, [], ◌∷◌, ◌++◌}
 use native.Mathlib.Numerals.{add-one}
 use native.Mathlib.Omega.{arith}
-use lib.ListN.{length, get_or, set, get_or-eq_default}
+use lib.ListN.{length, get_or, set}
 use Rattle.common.specs.Lists.{pad}
 use Rattle.common.proofs.Pad.{set-pad}
 use Rattle.common.proofs.Snoc.{length-snoc}
-
--- past the end of an array of n numbers there is 0
-pub past-array : (xs : List ℕ) (n i : ℕ) {j : ℕ} → length xs ≡ n → i ≡ j → n ≤ i → 0 ≡ get_or xs j 0
-past-array xs n i l e h = sym (get_or-eq_default xs 0 (omega arith))
 
 -- one more element of a list whose elements are at most b
 pub more-below : (b : ℕ) (xs : List ℕ) (a : ℕ) → ((i : ℕ) → get_or xs i 0 ≤ b) → a ≤ b

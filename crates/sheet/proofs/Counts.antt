@@ -8,7 +8,7 @@ use native.Mathlib.Omega.{arith}
 use lib.ListN.{length}
 use Rattle.common.specs.Reply.{given}
 use Rattle.common.proofs.Snoc.{length-snoc}
-use Rattle.sheet.specs.declared.record.Record.TheVariants.{Whole}
+use Rattle.sheet.specs.Record.{whole}
 use Rattle.sheet.specs.Record.{byte, record_at, part}
 use Rattle.sheet.specs.Model.{machine_count, move_count, move_of, with_machine, with_move}
 use Rattle.sheet.specs.Amend.{Draft}
@@ -51,7 +51,7 @@ module _ (d : Progress) (at next kind : ℕ) (body : List ℕ) (behind : next �
       record { one_more = omega arith; bytes_read = omega arith })
 
 pub grown-turn : (s : List ℕ) (at : ℕ) (d : Progress) (kind start len next : ℕ) (e : Progress)
-    → record_at s at ≡ Whole kind start len → turn_at s at d kind start len ≡ given (more next e)
+    → record_at s at ≡ whole kind start len → turn_at s at d kind start len ≡ given (more next e)
     → Grown d.draft e.draft at next
 grown-turn s at d kind start len next e w q =
     let g = goes_on s at d kind start len q in

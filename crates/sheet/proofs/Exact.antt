@@ -14,7 +14,7 @@ use Rattle.common.specs.Lists.{up_to}
 use Rattle.common.specs.Reply.{given}
 use Rattle.common.proofs.Snoc.{length-snoc}
 use Rattle.common.proofs.Sums.{flat_map-up_to-more, flat_map-snoc}
-use Rattle.sheet.specs.declared.record.Record.TheVariants.{Whole}
+use Rattle.sheet.specs.Record.{whole}
 use Rattle.sheet.specs.Record.{byte, record_at, part, record_of}
 use Rattle.sheet.specs.Model.{Move, Model, absent_move, machine_count, move_count, move_at, move_of, with_machine, with_move}
 use Rattle.sheet.specs.Amend.{Amendment, replace, amendment_of, Draft, Amends, none, more}
@@ -149,7 +149,7 @@ module _ (s : List ℕ) (bytes : (i : ℕ) → byte s i < 256) where
   exact-start = unamended-exact s 0 outset (sound-start s) (record { none = refl; same = refl; taken = refl })
 
   -- one record more
-  module _ (at : ℕ) (d : Progress) (kind start len next : ℕ) (w : record_at s at ≡ Whole kind start len)
+  module _ (at : ℕ) (d : Progress) (kind start len next : ℕ) (w : record_at s at ≡ whole kind start len)
       (behind : start + len ≡ next) (h : Exact s at d) where
     abbrev x : Draft
     x = d.draft

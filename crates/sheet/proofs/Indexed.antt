@@ -11,15 +11,14 @@ use Rattle.common.specs.Reply.{Reply, given, refused}
 use Rattle.common.proofs.Pad.{length-pad}
 use Rattle.common.proofs.Reply.{given-not-refused}
 use Rattle.sheet.specs.declared.index.Sheet.{Sheet}
-use Rattle.sheet.specs.declared.index.Reading.{Reading}
-use Rattle.sheet.specs.declared.refusal.Cause.{Cause}
-use Rattle.sheet.specs.declared.refusal.Verdict.TheVariants.{Accepted, Refused}
+use Rattle.std.specs.Prelude.{Result, Ok, Err}
+use Rattle.sheet.specs.declared.refusal.Refusal.{Refusal}
 use Rattle.sheet.specs.Refusal.{number_of}
 use Rattle.sheet.specs.Record.{byte, body_at}
 use Rattle.sheet.specs.Model.{Model, machine_count, move_count, mode_count, move_at, move_of}
 use Rattle.sheet.specs.Valid.{Valid, ValidMove}
 use Rattle.sheet.specs.Parse.{Parsed, parse}
-use Rattle.sheet.specs.Index.{index_of, modes_in, verdict_of, reading_of, index_reply}
+use Rattle.sheet.specs.Index.{index_of, modes_in, reading_of, index_reply}
 use Rattle.sheet.specs.Kept.Indexed.{Indexes, Indexed, Listed}
 use Rattle.sheet.proofs.Records.{body-byte}
 use Rattle.sheet.proofs.Parsed.{Stands, parse-valid, parse-places, parse-stands}
@@ -98,20 +97,19 @@ module _ {m : Model} {file places : List ℕ} (l : Listed m file places) {v : �
       ap (byte file) (omega arith) ∙ body-byte file (get_or places v 0) (omega (arith, long)) 0 (omega (arith, long))
       ∙ listed-machine refl
 
--- The reply of reading a sheet, told by its verdict
+-- The reply of reading a sheet, told by its case
 
-module _ (s : List ℕ) (r : Reading) (e : reading_of r ≡ index_reply (parse s)) where
-  pub accepted-indexed : r.verdict ≡ Accepted → Indexed s r.sheet
-  accepted-indexed a = go (parse s) refl (ap (λ v. verdict_of v (given r.sheet)) (sym a) ∙ e)
+module _ (s : List ℕ) (r : Result Sheet Refusal) (e : reading_of r ≡ index_reply (parse s)) where
+  pub accepted-indexed : {x : Sheet} → r ≡ Ok x → Indexed s x
+  accepted-indexed {x} a = go (parse s) refl (ap reading_of (sym a) ∙ e)
     where
-      go : (p : Reply Parsed) → parse s ≡ p → given r.sheet ≡ index_reply p → Indexed s r.sheet
+      go : (p : Reply Parsed) → parse s ≡ p → given x ≡ index_reply p → Indexed s x
       go (given d) q w = (d.model, record { parsed = d; passes = q; index = cc; model = refl })
       go (refused number place) q w = absurd (given-not-refused w)
 
-  pub refused-parse : {cause : Cause} {place : ℕ} → r.verdict ≡ Refused cause place
-      → parse s ≡ refused (number_of cause) place
-  refused-parse {cause} {place} a = go (parse s) (ap (λ v. verdict_of v (given r.sheet)) (sym a) ∙ e)
+  pub refused-parse : {f : Refusal} → r ≡ Err f → parse s ≡ refused (number_of f.cause) f.place
+  refused-parse {f} a = go (parse s) (ap reading_of (sym a) ∙ e)
     where
-      go : (p : Reply Parsed) → refused (number_of cause) place ≡ index_reply p → p ≡ refused (number_of cause) place
+      go : (p : Reply Parsed) → refused (number_of f.cause) f.place ≡ index_reply p → p ≡ refused (number_of f.cause) f.place
       go (given d) w = absurd (given-not-refused (sym w))
       go (refused number at) w = cc

@@ -11,7 +11,7 @@ use lib.ListN.{length}
 use Rattle.common.specs.Reply.{Reply, refused, Fault, fault, unless}
 use Rattle.common.proofs.Bools.{or-false-left}
 use Rattle.common.proofs.Pad.{get_or-pad}
-use Rattle.sheet.specs.declared.judge.Counts.{Counts}
+use Rattle.sheet.specs.Kept.Held.{Counts}
 use Rattle.sheet.specs.Record.{byte}
 use Rattle.sheet.specs.Model.{Model, mode_count, move_of}
 use Rattle.sheet.specs.Faults.{wrong_move_length, bad_machine, bad_move, bad_guards}

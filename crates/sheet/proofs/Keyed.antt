@@ -7,24 +7,23 @@ use mathlib.Core.Logic.{⊎_elim}
 use mathlib.Core.List.Memᴰ
 use mathlib.Core.List.{List, [], ◌∷◌, ◌++◌, map, map-append}
 use native.Mathlib.Omega.{arith}
-use lib.ListN.{length, get_or, replicate}
+use lib.ListN.{length, get_or}
 use Rattle.common.specs.Lists.{any}
 use Rattle.common.proofs.Bools.{true-false}
 use Rattle.common.proofs.Lists.{any_none}
 use Rattle.common.proofs.Members.{mem-get_or}
 use Rattle.common.proofs.Snoc.{snoc-each}
 use Rattle.sheet.specs.Model.{Move, absent_move, is_same_move}
-use Rattle.sheet.specs.Kept.Sent.{key_of, Small, Added, Keyed}
-use Rattle.sheet.proofs.Slots.{sent-nothing}
+use Rattle.sheet.specs.Kept.Sent.{key_of, Small, Sent, Added, Keyed}
 use Rattle.sheet.proofs.Keys.{key-repeats}
 use Rattle.sheet.proofs.Same.{same-swaps}
 
-pub keyed-nothing : Keyed [] (replicate 512 0) (replicate 512 0) (replicate 512 0)
-keyed-nothing =
+pub keyed-nothing : {pairs commands owners : List ℕ} → Sent [] pairs commands owners → Keyed [] pairs commands owners
+keyed-nothing h =
     record {
       small = λ v i. absurd (Memᴰ.not-nil i);
       apart = λ i j l k. let no : ⊥ = omega arith in absurd no;
-      table = sent-nothing;
+      table = h;
     }
 
 -- one more move

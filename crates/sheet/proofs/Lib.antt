@@ -16,6 +16,7 @@ pub mod Exchanged
 pub mod Faulty
 pub mod Fits
 pub mod Guarantees
+pub mod GuardLoop
 pub mod Guards
 pub mod Holding
 pub mod Indexed
@@ -23,10 +24,11 @@ pub mod Judging
 pub mod Keyed
 pub mod Keys
 pub mod Modes
-pub mod NeedLoop
+pub mod Numbered
 pub mod Overwriting
 pub mod Parsed
 pub mod Passes
+pub mod Passing
 pub mod Pieces
 pub mod Place
 pub mod Ranks

@@ -15,7 +15,7 @@ use Rattle.common.specs.Lists.{any}
 use Rattle.common.specs.Reply.{given}
 use Rattle.common.proofs.Reply.{Clear}
 use Rattle.common.proofs.Snoc.{length-snoc, snoc-each}
-use Rattle.sheet.specs.declared.record.Record.TheVariants.{Whole}
+use Rattle.sheet.specs.Record.{whole}
 use Rattle.sheet.specs.Record.{record_at, part, body_at}
 use Rattle.sheet.specs.Model.{Move, absent_move, machine_count, move_count, move_at, move_of, is_same_move}
 use Rattle.sheet.specs.Amend.{Amendment, replace, amendment_of, named, instead, standing_at, exchanged, amend, Draft}
@@ -87,13 +87,13 @@ sound-start s =
       placed = record { paired = refl; stands = λ v h. absurd (not-suc-le-zero h) };
     }
 
-pub move-stands : (s : List ℕ) (at : ℕ) {kind start len : ℕ} → record_at s at ≡ Whole kind start len
+pub move-stands : (s : List ℕ) (at : ℕ) {kind start len : ℕ} → record_at s at ≡ whole kind start len
     → MoveSize (length (part s start len)) → Stands s at (move_of (part s start len))
 move-stands s at w c =
     let b = body-part s at (sym w) refl in
     record { long = rw (← b) c.long; short = rw (← b) c.short; even = rw (← b) c.even; read = rw (← b) }
 
-module _ (s : List ℕ) (at : ℕ) (d : Progress) (kind start len : ℕ) (w : record_at s at ≡ Whole kind start len) where
+module _ (s : List ℕ) (at : ℕ) (d : Progress) (kind start len : ℕ) (w : record_at s at ≡ whole kind start len) where
   abbrev body : List ℕ
   body = part s start len
 

@@ -7,11 +7,11 @@ use mathlib.Core.List.{List}
 use native.Mathlib.Omega.{arith}
 use lib.Dec.{eqb}
 use lib.ListN.{length}
+use Rattle.std.specs.Prelude.{Option, Some, None}
 use Rattle.common.specs.Reply.{refused, fitted}
 use Rattle.common.proofs.Bools.{by_cases}
 use Rattle.common.proofs.Reply.{Each, caused-each, refused-cause}
 use Rattle.sheet.specs.declared.record.Record.{Record}
-use Rattle.sheet.specs.declared.record.Record.TheVariants.{Whole, Cut}
 use Rattle.sheet.specs.Record.{record_at, part}
 use Rattle.sheet.specs.Amend.{Draft}
 use Rattle.sheet.specs.Faults.{faults_of, machine_faults, move_faults, late_faults, end_faults, replace_faults, withdraw_faults}
@@ -66,19 +66,19 @@ module _ (s : List ℕ) (at : ℕ) (h : at ≤ length s) (l : at ≤ 7728) where
       by_cases (eqb kind 4) (λ t. rw (f, g, k, t) (two, (six, (seven, (eight, (last, tt)))))) (λ i.
       by_cases (eqb kind 5) (λ t. rw (f, g, k, i, t) (two, (last, tt))) (λ j. rw (f, g, k, i, j) (two, tt))))))
 
-pub turn-listed : (s : List ℕ) (at : ℕ) (d : Progress) (r : Record) {k p : ℕ} → at ≤ length s → at ≤ 7728
+pub turn-listed : (s : List ℕ) (at : ℕ) (d : Progress) (r : Option Record) {k p : ℕ} → at ≤ length s → at ≤ 7728
     → record_at s at ≡ r → turn_of s at d r ≡ refused k p → Listed s k p
-turn-listed s at d Cut {k} {p} h l w q =
+turn-listed s at d None {k} {p} h l w q =
     let a : ◌≡◌ {A = ℕ} 1 k = cc in
     let b : at ≡ p = cc in
     rw (← a, ← b) (low s at h l 1 (omega arith) (omega arith))
-turn-listed s at d (Whole kind start len) h l w q =
+turn-listed s at d (Some y) h l w q =
     ⊎_elim
-    (caused-each (Listed s) (faults-listed s at h l d.draft kind (part s start len)))
+    (caused-each (Listed s) (faults-listed s at h l d.draft y.kind (part s y.start y.len)))
     (λ b.
     let x = whole-at s at w in
-    let n = part_length s start len x.within in
-    let e = end-passes d.draft at kind (part s start len) b.is-end b.clear in
+    let n = part_length s y.start y.len x.within in
+    let e = end-passes d.draft at y.kind (part s y.start y.len) b.is-end b.clear in
     caused-each (Listed s) (
       record {
         number = inl (omega arith, omega arith);
@@ -88,7 +88,7 @@ turn-listed s at d (Whole kind start len) h l w q =
       tt,
     )
     b.caused)
-    (refuses s at d kind start len q)
+    (refuses s at d y.kind y.start y.len q)
 
 pub stopped-listed : (s : List ℕ) (k p : ℕ) → Stopped s (Sound s) (refused k p) → Listed s k p
 stopped-listed s k p r = go k p r.stop

@@ -7,10 +7,9 @@ use mathlib.Core.List.{List, [], ◌∷◌, ◌++◌, map, map-append}
 use native.Mathlib.Nat.{not-suc-le-zero}
 use native.Mathlib.Omega.{arith}
 use borrow.Author.Tests.{not-false, lt-ltb, le-ltb}
-use mir.Val.{Fits}
-use mir.Syntax.{w16}
 use lib.Dec.{ltb}
 use lib.ListN.{length, get_or, set, take, drop, length-map, get_or-eq_default}
+use Rattle.std.specs.Prelude.{Option, Result, Ok, Err, Some}
 use Rattle.common.specs.Lists.{any, filter}
 use Rattle.common.specs.Reply.{given, refused, fault, unless}
 use Rattle.common.proofs.Members.{get_or-map}
@@ -18,20 +17,23 @@ use Rattle.common.proofs.Pad.{get_or-pad, length-pad}
 use Rattle.common.proofs.Reply.{unless-clear, unless-first}
 use Rattle.common.proofs.Snoc.{snoc-each}
 use Rattle.sheet.specs.declared.record.Record.{Record}
-use Rattle.sheet.specs.declared.record.Record.TheVariants.{Whole}
 use Rattle.sheet.specs.declared.refusal.Cause.{Cause}
-use Rattle.sheet.specs.declared.judge.Judged.{Judged}
-use Rattle.sheet.specs.declared.judge.Judged.TheVariants.{Fine, Faulty}
 use Rattle.sheet.specs.declared.index.Sheet.{Sheet}
+use Rattle.sheet.specs.Kept.Held.{Counts}
+use Rattle.sheet.specs.declared.kind.Kind.{Kind}
+use Rattle.sheet.specs.declared.kind.UnknownKind.{UnknownKind}
+use Rattle.sheet.specs.declared.kind.Kind.TheVariants.{Machine, Move as Moves, End}
+use Rattle.sheet.specs.declared.judge.Machines.{Machines}
 use Rattle.sheet.specs.Refusal.{number_of}
-use Rattle.sheet.specs.Index.{index_reply, sheet_of}
+use Rattle.sheet.specs.Index.{index_reply}
 use Rattle.sheet.specs.Record.{byte, record_at, body_at}
 use Rattle.sheet.specs.Model.{Model, machine_count, absent_move, move_of, is_same_move, with_machine, with_move}
 use Rattle.sheet.specs.Faults.{machine_faults, late_faults, end_faults}
 use Rattle.sheet.specs.Parse.{Progress, finished, more, ended, turn_of, parse_from, parse}
-use Rattle.sheet.specs.Kept.Held.{fine, judged_of, top_of, own_move_faults, own_faults, Counted, Held}
+use Rattle.sheet.specs.Kept.Held.{counts_of, fine, judged_of, top_of, own_move_faults, own_faults, Counted, Held}
+use Rattle.sheet.specs.Kept.Kinds.{kind_number, NamesKind}
 use Rattle.sheet.specs.Kept.Sent.{key_of, Small, Sent, Added}
-use Rattle.sheet.specs.Kept.Scanned.{move_there, is_place, counts_of, Scanned, Amending}
+use Rattle.sheet.specs.Kept.Scanned.{move_there, is_place, Scanned, Amending}
 use Rattle.sheet.proofs.Arrays.{fills, one-longer}
 use Rattle.sheet.proofs.Closing.{places-kept}
 use Rattle.sheet.proofs.Drafts.{with_machine_read, with_move_read}
@@ -39,17 +41,18 @@ use Rattle.sheet.proofs.Fits.{MachinePasses}
 use Rattle.sheet.proofs.Judging.{passed-small, own-machine, own-move, own-end}
 use Rattle.sheet.proofs.Holding.{held-machine, held_move}
 use Rattle.sheet.proofs.Keyed.{moved_before, keyed-more}
-use Rattle.sheet.proofs.Records.{whole-at, whole-starts, body-whole, body-is-bytes}
+use Rattle.sheet.proofs.Numbered.{kind-named}
+use Rattle.sheet.proofs.Records.{whole-at, body-whole, body-is-bytes}
 use Rattle.sheet.proofs.Same.{same-intro}
 use Rattle.sheet.proofs.Steps.{repeated, ends-behind, turn-faulty, MoveFits}
 use Rattle.sheet.proofs.Steps.{machine-fits, turn-machine, move-fits, turn-move, turn_end}
-use Rattle.sheet.proofs.Scanning.{with_live, left, one_left, leads-on, leads-to-end, leads-to-refusal, index_is}
-use Rattle.sheet.proofs.Scanning.{reading-given, reading-index}
+use Rattle.sheet.proofs.Scanning.{index_kept, left, one_left, leads-on, leads-to-end, leads-to-refusal, index_is}
+use Rattle.sheet.proofs.Scanning.{reading-given}
 
 -- a turn: the record at the place is whole
-module _ {s : List ℕ} {sheet : Sheet} {lives tops pairs commands owners : List ℕ} {at : ℕ}
-    (h : Scanned s sheet lives tops pairs commands owners at) {r : Record} {kind start len : ℕ} (e : r ≡ record_at s at)
-    (w : r ≡ Whole kind start len) where
+module _ {s : List ℕ} {counts : Counts} {modes lives tops pairs commands owners places : List ℕ} {at : ℕ}
+    (h : Scanned s counts modes lives tops pairs commands owners places at) {r : Option Record} {it : Record} (e : r ≡ record_at s at)
+    (w : r ≡ Some it) where
   abbrev d : Progress
   d = h.read
 
@@ -57,126 +60,121 @@ module _ {s : List ℕ} {sheet : Sheet} {lives tops pairs commands owners : List
   m = d.draft.sent
 
   abbrev body : List ℕ
-  body = take (start + len - start) (drop start s)
+  body = take (it.start + it.len - it.start) (drop it.start s)
 
   its-body : body ≡ body_at s at
   its-body = body-whole s at e w
 
-  begins-at : start ≡ at + 4
-  begins-at = whole-starts s at e w
-
-  ends_at : start + len ≡ at + 4 + length body
+  ends_at : it.start + it.len ≡ at + 4 + length body
   ends_at = ends-behind s at d e w its-body
 
   refuses : {number place : ℕ} → turn_of s at d (record_at s at) ≡ refused number place → parse s ≡ refused number place
   refuses p = leads-to-refusal s (left s h) at d h.leads (one_left s h) p
 
   -- judged by its own causes
-  abbrev Found : Judged → Type 0
-  Found j = judged_of j at ≡ unless (own_faults m at kind body) fine
+  abbrev Found : Result Unit Cause → Type 0
+  Found j = judged_of j at ≡ unless (own_faults m at it.kind body) fine
 
-  faulty : (j : Judged) {cause : Cause} → Found j → j ≡ Faulty cause → parse s ≡ refused (number_of cause) at
+  faulty : (j : Result Unit Cause) {cause : Cause} → Found j → j ≡ Err cause → parse s ≡ refused (number_of cause) at
   faulty j found q = refuses (turn-faulty s at d e w its-body found q)
 
   -- a machine
-  module _ (k : kind ≡ 1) (j : Judged)
-      (judged : (m : Model) (place : ℕ) → Counted m (counts_of sheet)
-      → judged_of j place ≡ unless (machine_faults m place (take (start + len - start) (drop start s))) fine) where
-    found-machine : Found j
-    found-machine = judged m at h.drafted.held.counted ∙ rw (own-machine m at kind body k)
+  module _ {t : Result Kind UnknownKind} (kinded : NamesKind it.kind t) {kind : Kind} (is-kind : t ≡ Ok kind)
+      (of : kind ≡ Machine) (j : Result Unit Cause)
+      (judged : (m : Model) (place : ℕ) → Counted m counts
+      → judged_of j place ≡ unless (machine_faults m place (take (it.start + it.len - it.start) (drop it.start s))) fine) where
+    of-machine : it.kind ≡ 1
+    of-machine = kind-named kinded is-kind ∙ ap kind_number of
 
-    pub machine-faulty : {cause : Cause} → j ≡ Faulty cause → parse s ≡ refused (number_of cause) at
+    found-machine : Found j
+    found-machine = judged m at h.drafted.held.counted ∙ rw (own-machine m at it.kind body of-machine)
+
+    pub machine-faulty : {cause : Cause} → j ≡ Err cause → parse s ≡ refused (number_of cause) at
     machine-faulty q = faulty j found-machine q
 
-    module _ (q : j ≡ Fine) where
+    module _ (q : j ≡ Ok tt) where
       passes : MachinePasses m body
-      passes = machine-fits s at d e w its-body found-machine q k
+      passes = machine-fits s at d e w its-body found-machine q of-machine
 
       -- its two bytes are there
-      pub machine-first : 0 < length body
-      machine-first = omega (arith, passes.two_are_bytes)
-
       pub machine-second : 1 < length body
       machine-second = omega (arith, passes.two_are_bytes)
 
       -- and a place for it is left
-      pub machine-room : sheet.machines < 32
+      pub machine-room : counts.machines < 32
       machine-room = omega (arith, passes.room, h.drafted.held.counted.machines-are)
-
-      pub machine-below : sheet.machines < 256
-      machine-below = omega (arith, machine-room)
 
       pub machine-few : byte body 0 ≤ 8
       machine-few = passes.valid.few-modes
 
-      pub machine-less : 347 - (sheet.machines + 1 + sheet.moves) < left s h
-      machine-less = omega (arith, machine-room, one_left s h)
-
-      pub scan-machine : {top : ℕ} → top ≡ top_of (byte body 0)
-          → Scanned s (record {
-            machines = sheet.machines + 1;
-            moves = sheet.moves;
-            modes = set sheet.modes sheet.machines (byte body 0);
-            live = sheet.live;
-            places = sheet.places;
-          }) (set lives sheet.machines (byte body 1)) (set tops sheet.machines top) pairs commands owners (start + len)
-      unfolding with_machine
-      scan-machine p =
-          record {
-            read = with_machine_read d body;
-            drafted = record {
-              held = held-machine m h.drafted.held body passes p;
-              modes-in =
-                  fills 32 m.modes (byte body 0) h.drafted.modes-in h.drafted.held.counted.machines-are machine-room;
-              keyed = h.drafted.keyed;
-            };
-            untouched = h.untouched;
-            unamended = h.unamended;
-            places-in = h.places-in;
-            places-are = h.places-are;
-            stand = h.stand;
-            positive = h.positive;
-            started = λ l. omega (arith, ends_at);
-            near = omega (arith, ends_at, passes.two_are_bytes, h.near);
-            bytes = h.bytes;
-            leads =
-                leads-on s (left s h) at d h.leads (one_left s h) _ (omega arith)
-                (turn-machine s at d e w its-body found-machine q k);
-          }
+      -- one machine more
+      module _ {now : Machines} (p : now ≡ record {
+        sheet = record {
+          machines = counts.machines + 1;
+          moves = counts.moves;
+          modes = set modes counts.machines (byte body 0);
+          live = set lives counts.machines (byte body 1);
+          places = places;
+        };
+        tops = set tops counts.machines (top_of (byte body 0));
+      }) where
+        pub scan-machine
+            : Scanned s (counts_of now.sheet) now.sheet.modes now.sheet.live now.tops pairs commands owners now.sheet.places (it.start + it.len)
+        unfolding with_machine
+        scan-machine =
+            rw p (record {
+              read = with_machine_read d body;
+              drafted = record {
+                held = held-machine m h.drafted.held body passes refl;
+                modes-in =
+                    fills 32 m.modes (byte body 0) h.drafted.modes-in h.drafted.held.counted.machines-are machine-room;
+                keyed = h.drafted.keyed;
+              };
+              untouched = h.untouched;
+              unamended = h.unamended;
+              places-in = h.places-in;
+              places-are = h.places-are;
+              stand = h.stand;
+              positive = h.positive;
+              started = λ l. omega (arith, ends_at);
+              near = omega (arith, ends_at, passes.two_are_bytes, h.near);
+              bytes = h.bytes;
+              leads =
+                  leads-on s (left s h) at d h.leads (one_left s h) _ (omega arith)
+                  (turn-machine s at d e w its-body found-machine q of-machine);
+            })
 
   -- a move
-  module _ (k : kind ≡ 2) (j : Judged)
-      (judged : (m : Model) (place : ℕ) → Held m (counts_of sheet) tops lives
-      → judged_of j place ≡ unless (own_move_faults m place (take (start + len - start) (drop start s))) fine) where
-    found-move : Found j
-    found-move = judged m at h.drafted.held ∙ rw (own-move m at kind body k)
+  module _ {t : Result Kind UnknownKind} (kinded : NamesKind it.kind t) {kind : Kind} (is-kind : t ≡ Ok kind)
+      (of : kind ≡ Moves) (j : Result Unit Cause)
+      (judged : (m : Model) (place : ℕ) → Held m counts tops lives
+      → judged_of j place ≡ unless (own_move_faults m place (take (it.start + it.len - it.start) (drop it.start s))) fine) where
+    of-move : it.kind ≡ 2
+    of-move = kind-named kinded is-kind ∙ ap kind_number of
 
-    pub move-faulty : {cause : Cause} → j ≡ Faulty cause → parse s ≡ refused (number_of cause) at
+    found-move : Found j
+    found-move = judged m at h.drafted.held ∙ rw (own-move m at it.kind body of-move)
+
+    pub move-faulty : {cause : Cause} → j ≡ Err cause → parse s ≡ refused (number_of cause) at
     move-faulty q = faulty j found-move q
 
-    module _ (q : j ≡ Fine) where
+    module _ (q : j ≡ Ok tt) where
       move : MoveFits m body
-      move = move-fits s at d e w its-body found-move q k
+      move = move-fits s at d e w its-body found-move q of-move
 
       turns_move : turn_of s at d (record_at s at)
-          ≡ unless (repeated d.draft at body) (given (more (start + len) (with_move_read d at body)))
-      turns_move = turn-move s at d e w its-body found-move q k
+          ≡ unless (repeated d.draft at body) (given (more (it.start + it.len) (with_move_read d at body)))
+      turns_move = turn-move s at d e w its-body found-move q of-move
 
       pub move-bytes : 4 ≤ length body
       move-bytes = move.size.long
 
-      pub move-room : sheet.moves < 250
+      pub move-room : counts.moves < 250
       move-room = omega (arith, move.room, h.drafted.held.counted.moves-are)
-
-      pub move-less : 347 - (sheet.machines + (sheet.moves + 1)) < left s h
-      move-less = omega (arith, move-room, one_left s h)
-
-      pub place-fits : Fits w16 at
-      place-fits = omega (arith, begins-at, h.near, h.drafted.held.few-machines, h.drafted.held.few-moves)
 
       -- by whether an earlier one has its key
       module _ {new : Bool} {pairs' commands' owners' : List ℕ}
-          (adds : (keys : List ℕ) → Sent keys pairs commands owners → length keys ≡ sheet.moves → (byte body 3 ≡ 0 → ⊥)
+          (adds : (keys : List ℕ) → Sent keys pairs commands owners → length keys ≡ counts.moves → (byte body 3 ≡ 0 → ⊥)
           → Added keys (key_of (move_of body)) new pairs' commands' owners') where
         a : Added (map key_of m.moves) (key_of (move_of body)) new pairs' commands' owners'
         a =
@@ -194,13 +192,8 @@ module _ {s : List ℕ} {sheet : Sheet} {lives tops pairs commands owners : List
         scan-repeated y = refuses (turns_move ∙ unless-first (fault 8 at _) _ _ (same-before ∙ y))
 
         pub scan-move : not new ≡ false
-            → Scanned s (record {
-              machines = sheet.machines;
-              moves = sheet.moves + 1;
-              modes = sheet.modes;
-              live = sheet.live;
-              places = set sheet.places sheet.moves at;
-            }) lives tops pairs' commands' owners' (start + len)
+            → Scanned s (record { machines = counts.machines; moves = counts.moves + 1 }) modes lives tops pairs' commands' owners'
+            (set places counts.moves at) (it.start + it.len)
         unfolding with_move late_faults move_there
         scan-move n =
             let v = move_of body in
@@ -231,39 +224,40 @@ module _ {s : List ℕ} {sheet : Sheet} {lives tops pairs commands owners : List
             }
 
   -- the end
-  module _ (k : kind ≡ 3) (j : Judged)
-      (judged : (m : Model) (place : ℕ) → machine_count m ≡ sheet.machines
-      → judged_of j place ≡ unless (end_faults m place (take (start + len - start) (drop start s))) fine) where
-    found-end : Found j
-    found-end = judged m at h.drafted.held.counted.machines-are ∙ rw (own-end m at kind body k)
+  module _ {t : Result Kind UnknownKind} (kinded : NamesKind it.kind t) {kind : Kind} (is-kind : t ≡ Ok kind)
+      (of : kind ≡ End) (j : Result Unit Cause)
+      (judged : (m : Model) (place : ℕ) → machine_count m ≡ counts.machines
+      → judged_of j place ≡ unless (end_faults m place (take (it.start + it.len - it.start) (drop it.start s))) fine) where
+    of-end : it.kind ≡ 3
+    of-end = kind-named kinded is-kind ∙ ap kind_number of
 
-    pub end-faulty : {cause : Cause} → j ≡ Faulty cause → parse s ≡ refused (number_of cause) at
+    found-end : Found j
+    found-end = judged m at h.drafted.held.counted.machines-are ∙ rw (own-end m at it.kind body of-end)
+
+    pub end-faulty : {cause : Cause} → j ≡ Err cause → parse s ≡ refused (number_of cause) at
     end-faulty q = faulty j found-end q
 
-    module _ (q : j ≡ Fine) where
+    module _ (q : j ≡ Ok tt) where
       turns-end : turn_of s at d (record_at s at)
-          ≡ unless (fault 3 (start + len) (ltb (start + len) (length s)) ∷ []) (given (ended d))
-      turns-end = turn_end s at d e w its-body found-end q k
+          ≡ unless (fault 3 (it.start + it.len) (ltb (it.start + it.len) (length s)) ∷ []) (given (ended d))
+      turns-end = turn_end s at d e w its-body found-end q of-end
 
-      pub scan_trailing : start + len < length s → parse s ≡ refused 3 (start + len)
-      scan_trailing y = refuses (turns-end ∙ unless-first (fault 3 (start + len) _) [] _ (lt-ltb _ _ y))
+      pub scan_trailing : it.start + it.len < length s → parse s ≡ refused 3 (it.start + it.len)
+      scan_trailing y = refuses (turns-end ∙ unless-first (fault 3 (it.start + it.len) _) [] _ (lt-ltb _ _ y))
 
-      ended_at : length s ≤ start + len → parse s ≡ given (finished d)
+      ended_at : length s ≤ it.start + it.len → parse s ≡ given (finished d)
       ended_at n =
           leads-to-end s (left s h) at d h.leads (one_left s h)
-          (turns-end ∙ unless-clear (fault 3 (start + len) _ ∷ []) _ (le-ltb _ _ n, tt))
+          (turns-end ∙ unless-clear (fault 3 (it.start + it.len) _ ∷ []) _ (le-ltb _ _ n, tt))
 
-      pub scan-given : length s ≤ start + len → {x : Sheet} → x ≡ with_live sheet lives → given x ≡ index_reply (parse s)
+      pub scan-given : length s ≤ it.start + it.len → {x : Sheet} → x ≡ index_kept counts modes lives places → given x ≡ index_reply (parse s)
       scan-given n p = reading-given s (ended_at n) (p ∙ index_is s h)
 
-      pub scan-index : length s ≤ start + len → {x : Sheet} → x ≡ with_live sheet lives → x ≡ sheet_of (parse s)
-      scan-index n p = reading-index s (ended_at n) (p ∙ index_is s h)
-
   -- what is none of them begins the tail
-  module _ (not-machine : kind ≡ 1 → ⊥) (not-Move : kind ≡ 2 → ⊥) where
-    pub scan-tail : Amending s (counts_of sheet) sheet.modes lives tops pairs commands owners sheet.places 0 at
+  module _ (not-machine : it.kind ≡ 1 → ⊥) (not-Move : it.kind ≡ 2 → ⊥) where
+    pub scan-tail : Amending s counts modes lives tops pairs commands owners places 0 at
     scan-tail =
-        let there : (v : ℕ) → get_or sheet.places v 0 ≡ get_or d.places v 0 =
+        let there : (v : ℕ) → get_or places v 0 ≡ get_or d.places v 0 =
         λ v. ap (λ l. get_or l v 0) h.places-in ∙ get_or-pad 250 d.places v in
         record {
           read = d;

@@ -61,12 +61,6 @@ seek-inside s = omega (arith, s.place)
 
 module _ {keys pairs commands owners : List ℕ} (h : Sent keys pairs commands owners) (key : ℕ) {at : ℕ}
     (s : Seeking pairs commands key at) where
-  pub seek-in-pairs : at < length pairs
-  seek-in-pairs = omega (arith, seek-inside s, h.pairs-long)
-
-  pub seek-in-commands : at < length commands
-  seek-in-commands = omega (arith, seek-inside s, h.commands-long)
-
   reached : Reached commands key at
   reached = record { far = s.far; place = s.place; taken = s.taken }
 
@@ -260,18 +254,6 @@ module _ {keys pairs commands owners : List ℕ} (h : Sent keys pairs commands o
             by_cases (eqb k at) (λ y. head (eqb-true k at y)) (λ n.
             tail (h.listed k (rw (other-stays k (eqb-false k at n)) at t)));
       }
-
--- where a search ends is a slot of the table
-module _ {keys pairs commands owners : List ℕ} {key at : ℕ} (h : Sent keys pairs commands owners)
-    (s : Sought keys pairs commands key at) where
-  pub sought-in-pairs : at < length pairs
-  sought-in-pairs = omega (arith, s.inside, h.pairs-long)
-
-  pub sought-in-commands : at < length commands
-  sought-in-commands = omega (arith, s.inside, h.commands-long)
-
-  pub sought-in-owners : at < length owners
-  sought-in-owners = omega (arith, s.inside, h.owners-long)
 
 -- what adding a key answers, by the slot where the search for it ends
 module _ {keys pairs commands : List ℕ} {k key at : ℕ} (e : k ≡ key) (s : Sought keys pairs commands k at) where

@@ -5,14 +5,13 @@ use mathlib.Core.Path.{◌≡◌, refl, sym, ◌∙◌}
 use mathlib.Core.Bool.{true, false}
 use mathlib.Core.List.{List, map}
 use native.Mathlib.Omega.{arith}
-use borrow.Author.Tests.{eqb-true, eqb-false, eq-eqb, ne_eqb, le-ltb}
-use lib.Dec.{eqb}
+use borrow.Author.Tests.{eq-eqb, ne_eqb, le-ltb}
 use lib.ListN.{length, get_or, length-map}
-use Rattle.common.proofs.Bools.{by_cases, false-of-not-true}
+use Rattle.common.proofs.Bools.{false-of-not-true}
 use Rattle.common.proofs.Lists.{any_none}
 use Rattle.common.proofs.Members.{mem-get_or, get_or-map}
 use Rattle.sheet.specs.declared.amending.Amendment.{Amendment}
-use Rattle.sheet.specs.declared.amending.Found.TheVariants.{Number, Nothing}
+use Rattle.std.specs.Prelude.{Some, None}
 use Rattle.sheet.specs.Record.{byte}
 use Rattle.sheet.specs.Model.{Move, absent_move, move_of, is_same_move}
 use Rattle.sheet.specs.Amend.{named, amendment_of}
@@ -21,14 +20,6 @@ use Rattle.sheet.specs.Kept.Scanned.{Named, Stood}
 use Rattle.sheet.proofs.Keys.{key-tells, key-repeats}
 use Rattle.sheet.proofs.Same.{same-machine, same_from, same_alike}
 use Rattle.sheet.proofs.Slots.{seek-tells}
-
--- the body of an amendment has the bytes that name a move
-pub naming-long : (kind : ℕ) {n : ℕ} → (kind ≡ 4 → 4 ≤ n) → ((kind ≡ 4 → ⊥) → 3 ≤ n) → 3 ≤ n
-naming-long kind a b =
-    by_cases (eqb kind 4)
-    (λ y. let l = a (eqb-true kind 4 y) in
-    omega arith)
-    (λ n. b (eqb-false kind 4 n))
 
 module _ (body : List ℕ) {kind : ℕ} where
   pub named-replaced : kind ≡ 4
@@ -43,7 +34,7 @@ module _ (body : List ℕ) {kind : ℕ} where
 
 -- no standing move is so named
 stood-none : {vs : List Move} {places : List ℕ} {v : Move}
-    → ((j : ℕ) → j < length vs → 0 < get_or places j 0 → is_same_move v (get_or vs j absent_move) ≡ false) → Stood vs places v Nothing
+    → ((j : ℕ) → j < length vs → 0 < get_or places j 0 → is_same_move v (get_or vs j absent_move) ≡ false) → Stood vs places v None
 stood-none f =
     record {
       below = λ n e. absurd (other e);
@@ -53,7 +44,7 @@ stood-none f =
       none = λ e. f;
     }
   where
-    other : {n : ℕ} → Nothing ≡ Number n → ⊥
+    other : {n : ℕ} → None ≡ Some n → ⊥
     other e = let z : ◌≡◌ {A = ℕ} 0 1 = cc in omega arith
 
 module _ (vs : List Move) {pairs commands owners : List ℕ} (h : Keyed vs pairs commands owners) (v : Move) where
@@ -65,15 +56,15 @@ module _ (vs : List Move) {pairs commands owners : List ℕ} (h : Keyed vs pairs
       o (sym (h.apart n j l k (sym (same_alike v (get_or vs n absent_move) (get_or vs j absent_move) t) ∙ y))))
 
   -- every move that was sent is small, and so a move that is not is the same as none of them
-  large-none : (places : List ℕ) → ((w : Move) → Small w → is_same_move v w ≡ true → ⊥) → Stood vs places v Nothing
+  large-none : (places : List ℕ) → ((w : Move) → Small w → is_same_move v w ≡ true → ⊥) → Stood vs places v None
   large-none places o =
       stood-none (λ j l s. false-of-not-true (o (get_or vs j absent_move) (h.small _ (mem-get_or vs j absent_move l))))
 
   module _ (places : List ℕ) {a : Amendment} (n : Named v a) {m : ℕ} (is : m ≡ a.machine) where
-    pub no-machine : 32 ≤ m → Stood vs places v Nothing
+    pub no-machine : 32 ≤ m → Stood vs places v None
     no-machine l = large-none places (λ w s t. omega (arith, s.machine, same-machine v w t, n.machine))
 
-    pub no_mode : 8 ≤ a.from → Stood vs places v Nothing
+    pub no_mode : 8 ≤ a.from → Stood vs places v None
     no_mode l = large-none places (λ w s t. omega (arith, s.from, same_from v w t, n.from))
 
     -- what the slot tells where the search for the key ends, if the machine and the mode are of some sheet
@@ -91,7 +82,7 @@ module _ (vs : List Move) {pairs commands owners : List ℕ} (h : Keyed vs pairs
       sought-key : 256 * pair + a.command ≡ key_of v
       sought-key = rw (← n.command) (is_key v n.machine n.from (omega (arith, n.command)))
 
-      pub free-none : get_or commands at 0 ≡ 0 → Stood vs places v Nothing
+      pub free-none : get_or commands at 0 ≡ 0 → Stood vs places v None
       free-none f =
           let none =
           sym (key-repeats vs v h.small named_small) ∙ seek-tells sought-key s ∙ le-ltb 0 (get_or commands at 0) (omega arith) in
@@ -108,14 +99,14 @@ module _ (vs : List Move) {pairs commands owners : List ℕ} (h : Keyed vs pairs
             sym (get_or-map key_of vs k absent_move 0 below) ∙ rw o own.key ∙ s.holds (omega arith) in
             sym (key-tells v _ named_small (h.small _ (mem-get_or vs k absent_move below))) ∙ eq-eqb _ _ (sym (its ∙ sought-key))
 
-        pub withdrawn-none : get_or places k 0 ≡ 0 → Stood vs places v Nothing
+        pub withdrawn-none : get_or places k 0 ≡ 0 → Stood vs places v None
         withdrawn-none f =
             stood-none (λ j l p.
             only_one below same l (λ q.
             let w : get_or places j 0 ≡ 0 = rw q f in
             omega arith))
 
-        pub owner-stands : (get_or places k 0 ≡ 0 → ⊥) → Stood vs places v (Number k)
+        pub owner-stands : (get_or places k 0 ≡ 0 → ⊥) → Stood vs places v (Some k)
         owner-stands p =
             record {
               below = λ i q. rw (← number q) below;
@@ -125,11 +116,5 @@ module _ (vs : List Move) {pairs commands owners : List ℕ} (h : Keyed vs pairs
               none = λ q. let no : ◌≡◌ {A = ℕ} 0 1 = cc in absurd (let f : ⊥ = omega arith in f);
             }
           where
-            number : {i : ℕ} → Number k ≡ Number i → k ≡ i
+            number : {i : ℕ} → Some k ≡ Some i → k ≡ i
             number q = cc
-
--- the number of the move in a slot is that of a place
-pub owner-in-places : (places : List ℕ) {vs : List Move} {pairs commands owners : List ℕ} (at : ℕ) {k : ℕ}
-    → Keyed vs pairs commands owners → (get_or commands at 0 ≡ 0 → ⊥) → k ≡ get_or owners at 0 → length places ≡ 250
-    → k < length places
-owner-in-places places at h t o long = omega (arith, (h.table.held at (omega arith)).below, h.table.few)

@@ -9,15 +9,13 @@ use native.Mathlib.Omega.{arith}
 use borrow.Author.Tests.{leb-false, le-leb, lt-leb, eqb-true, eqb-false, not-false}
 use lib.Dec.{eqb, ltb, leb}
 use lib.ListN.{length}
+use Rattle.std.specs.Prelude.{Option, Result, Ok, Err, Some}
 use Rattle.common.specs.Lists.{any}
 use Rattle.common.specs.Reply.{Reply, given, refused, Fault, fault, unless}
 use Rattle.common.proofs.Bools.{by_cases, true-false}
 use Rattle.common.proofs.Reply.{Clear, unless-clear, unless-append, given-clear, refused-anyway}
 use Rattle.sheet.specs.declared.record.Record.{Record}
-use Rattle.sheet.specs.declared.record.Record.TheVariants.{Whole}
 use Rattle.sheet.specs.declared.refusal.Cause.{Cause}
-use Rattle.sheet.specs.declared.judge.Judged.{Judged}
-use Rattle.sheet.specs.declared.judge.Judged.TheVariants.{Fine, Faulty}
 use Rattle.sheet.specs.Refusal.{number_of}
 use Rattle.sheet.specs.Record.{byte, record_at, body_at}
 use Rattle.sheet.specs.Model.{Model, machine_count, move_count, move_of, is_same_move}
@@ -115,81 +113,81 @@ module _ (x : Draft) (a : Amendment) where
   stands-to-amend t h = rw (t, lt-leb 64 x.amended h)
 
 -- the record at a place
-module _ (s : List ℕ) (at : ℕ) (d : Progress) {r : Record} {kind start len : ℕ} {body : List ℕ}
-    (e : r ≡ record_at s at) (w : r ≡ Whole kind start len) (b : body ≡ body_at s at) where
+module _ (s : List ℕ) (at : ℕ) (d : Progress) {r : Option Record} {it : Record} {body : List ℕ}
+    (e : r ≡ record_at s at) (w : r ≡ Some it) (b : body ≡ body_at s at) where
   -- it ends behind its body
-  pub ends-behind : start + len ≡ at + 4 + length body
+  pub ends-behind : it.start + it.len ≡ at + 4 + length body
   ends-behind =
-      let long : length body ≡ len =
-      ap length (b ∙ sym (body-part s at e w)) ∙ part_length s start len (whole-within s at e w) in
+      let long : length body ≡ it.len =
+      ap length (b ∙ sym (body-part s at e w)) ∙ part_length s it.start it.len (whole-within s at e w) in
       omega (arith, whole-starts s at e w)
 
   -- where it leads if nothing is wrong with it
   abbrev onward : Reply Turn
   onward =
-      cond (eqb kind 3)
-      (unless (fault 3 (start + len) (ltb (start + len) (length s)) ∷ []) (given (ended d)))
-      (given (more (start + len) (extended d kind at body)))
+      cond (eqb it.kind 3)
+      (unless (fault 3 (it.start + it.len) (ltb (it.start + it.len) (length s)) ∷ []) (given (ended d)))
+      (given (more (it.start + it.len) (extended d it.kind at body)))
 
   turn_is : turn_of s at d (record_at s at)
-      ≡ unless (own_faults d.draft.sent at kind body) (unless (later_faults d.draft at kind body) onward)
+      ≡ unless (own_faults d.draft.sent at it.kind body) (unless (later_faults d.draft at it.kind body) onward)
   unfolding turn_at
-  turn_is = ap (turn_of s at d) (sym e ∙ w) ∙ rw (body-part s at e w, ← b) (own_first d.draft at body onward kind)
+  turn_is = ap (turn_of s at d) (sym e ∙ w) ∙ rw (body-part s at e w, ← b) (own_first d.draft at body onward it.kind)
 
   -- judged by its own causes
-  module _ {j : Judged} (found : judged_of j at ≡ unless (own_faults d.draft.sent at kind body) fine) where
-    pub turn-faulty : {cause : Cause} → j ≡ Faulty cause → turn_of s at d (record_at s at) ≡ refused (number_of cause) at
+  module _ {j : Result Unit Cause} (found : judged_of j at ≡ unless (own_faults d.draft.sent at it.kind body) fine) where
+    pub turn-faulty : {cause : Cause} → j ≡ Err cause → turn_of s at d (record_at s at) ≡ refused (number_of cause) at
     turn-faulty q =
         turn_is
-        ∙ refused-anyway (own_faults d.draft.sent at kind body) tt _ (sym found ∙ ap (λ x. judged_of x at) q)
+        ∙ refused-anyway (own_faults d.draft.sent at it.kind body) tt _ (sym found ∙ ap (λ x. judged_of x at) q)
 
-    module _ (q : j ≡ Fine) where
-      clear : Clear (own_faults d.draft.sent at kind body)
-      clear = given-clear (own_faults d.draft.sent at kind body) fine (sym found ∙ ap (λ x. judged_of x at) q)
+    module _ (q : j ≡ Ok tt) where
+      clear : Clear (own_faults d.draft.sent at it.kind body)
+      clear = given-clear (own_faults d.draft.sent at it.kind body) fine (sym found ∙ ap (λ x. judged_of x at) q)
 
-      turn-later : turn_of s at d (record_at s at) ≡ unless (later_faults d.draft at kind body) onward
-      turn-later = turn_is ∙ unless-clear (own_faults d.draft.sent at kind body) _ clear
+      turn-later : turn_of s at d (record_at s at) ≡ unless (later_faults d.draft at it.kind body) onward
+      turn-later = turn_is ∙ unless-clear (own_faults d.draft.sent at it.kind body) _ clear
 
-      module _ (k : kind ≡ 1) where
+      module _ (k : it.kind ≡ 1) where
         pub machine-fits : MachinePasses d.draft.sent body
         machine-fits =
-            machine-passes d.draft.sent at body (rw (own-machine d.draft.sent at kind body k) at clear)
+            machine-passes d.draft.sent at body (rw (own-machine d.draft.sent at it.kind body k) at clear)
 
-        pub turn-machine : turn_of s at d (record_at s at) ≡ given (more (start + len) (with_machine_read d body))
+        pub turn-machine : turn_of s at d (record_at s at) ≡ given (more (it.start + it.len) (with_machine_read d body))
         unfolding unless later_faults
         turn-machine = turn-later ∙ rw (k, reads-machine d at body)
 
-      module _ (k : kind ≡ 2) where
+      module _ (k : it.kind ≡ 2) where
         pub move-fits : MoveFits d.draft.sent body
-        move-fits = own-fits d.draft.sent at body (rw (own-move d.draft.sent at kind body k) at clear)
+        move-fits = own-fits d.draft.sent at body (rw (own-move d.draft.sent at it.kind body k) at clear)
 
         pub turn-move : turn_of s at d (record_at s at)
-            ≡ unless (repeated d.draft at body) (given (more (start + len) (with_move_read d at body)))
+            ≡ unless (repeated d.draft at body) (given (more (it.start + it.len) (with_move_read d at body)))
         unfolding later_faults
         turn-move = turn-later ∙ rw (k, reads-move d at body)
 
-      pub turn_end : kind ≡ 3 → turn_of s at d (record_at s at)
-          ≡ unless (fault 3 (start + len) (ltb (start + len) (length s)) ∷ []) (given (ended d))
+      pub turn_end : it.kind ≡ 3 → turn_of s at d (record_at s at)
+          ≡ unless (fault 3 (it.start + it.len) (ltb (it.start + it.len) (length s)) ∷ []) (given (ended d))
       unfolding unless later_faults
       turn_end k = turn-later ∙ rw k
 
-      -- a record of no other kind is an amendment
-      module _ (not-machine : kind ≡ 1 → ⊥) (not-Move : kind ≡ 2 → ⊥) (not_end : kind ≡ 3 → ⊥) where
-        amends : (kind ≡ 4) ⊎ (kind ≡ 5)
+      -- a record of no other it.kind is an amendment
+      module _ (not-machine : it.kind ≡ 1 → ⊥) (not-Move : it.kind ≡ 2 → ⊥) (not_end : it.kind ≡ 3 → ⊥) where
+        amends : (it.kind ≡ 4) ⊎ (it.kind ≡ 5)
         amends =
-            by_cases (eqb kind 4) (λ t. inl (eqb-true kind 4 t)) (λ f.
-            by_cases (eqb kind 5) (λ t. inr (eqb-true kind 5 t)) (λ g.
+            by_cases (eqb it.kind 4) (λ t. inl (eqb-true it.kind 4 t)) (λ f.
+            by_cases (eqb it.kind 5) (λ t. inr (eqb-true it.kind 5 t)) (λ g.
             absurd (true-false refl
-            (rw (own-unknown d.draft.sent at kind body not-machine not-Move not_end (eqb-false kind 4 f)
-            (eqb-false kind 5 g)) at clear).0)))
+            (rw (own-unknown d.draft.sent at it.kind body not-machine not-Move not_end (eqb-false it.kind 4 f)
+            (eqb-false it.kind 5 g)) at clear).0)))
 
-        pub amendment-fits : AmendmentFits d.draft.sent kind body
-        amendment-fits = amendment-fits-by d.draft.sent at kind body clear amends
+        pub amendment-fits : AmendmentFits d.draft.sent it.kind body
+        amendment-fits = amendment-fits-by d.draft.sent at it.kind body clear amends
 
         pub turn-amendment : turn_of s at d (record_at s at)
-            ≡ unless (unnamed d.draft at kind body)
-            (given (more (start + len) (amended_by d at (amendment_of kind body))))
+            ≡ unless (unnamed d.draft at it.kind body)
+            (given (more (it.start + it.len) (amended_by d at (amendment_of it.kind body))))
         unfolding later_faults
         turn-amendment =
-            let a = reads-amendment d at body kind amends in
+            let a = reads-amendment d at body it.kind amends in
             turn-later ∙ rw a (⊎_elim (λ k. rw k) (λ k. rw k) amends)

@@ -6,7 +6,7 @@ use mathlib.Core.List.{List}
 use native.Mathlib.Numerals.{sub-one}
 use native.Mathlib.Omega.{arith}
 use Rattle.common.specs.Reply.{Reply, given, refused}
-use Rattle.sheet.specs.declared.record.Record.TheVariants.{Whole}
+use Rattle.sheet.specs.Record.{whole}
 use Rattle.sheet.specs.Record.{record_at}
 use Rattle.sheet.specs.Parse.{Parsed, Progress, finished, Turn, more, ended, turn_at, turn_of, parse_from}
 use Rattle.sheet.proofs.Turns.{turn-next, turn-ended, turn-refused, turn-whole}
@@ -21,7 +21,7 @@ pub data Stop (s : List ℕ) (at : ℕ) (d : Progress) : Reply Parsed → Type 0
 -- a statement of a place and what has been read before it, which every turn that goes on keeps
 abbrev pub Keeps : List ℕ → (ℕ → Progress → Type 0) → Type 0
 Keeps s P =
-    (at : ℕ) (d : Progress) (kind start len next : ℕ) (e : Progress) → record_at s at ≡ Whole kind start len
+    (at : ℕ) (d : Progress) (kind start len next : ℕ) (e : Progress) → record_at s at ≡ whole kind start len
     → turn_at s at d kind start len ≡ given (more next e) → P at d → P next e
 
 pub record Stopped (s : List ℕ) (P : ℕ → Progress → Type 0) (r : Reply Parsed) : Type 0 where

@@ -11,13 +11,14 @@ use native.Mathlib.Omega.{arith}
 use borrow.Author.Tests.{ltb-false, lt-ltb, le-ltb, eq-eqb, ne_eqb}
 use lib.ListN.{length}
 use lib.Dec.{eqb, ltb}
+use Rattle.std.specs.Prelude.{Option, Some, None}
 use Rattle.common.specs.Reply.{Reply, given, refused, Fault, fault}
 use Rattle.common.proofs.Reply.{Clear, CausedBy, given-not-refused}
 use Rattle.common.proofs.Reply.{given-clear, given_stays, refused-ways, refused-cause}
 use Rattle.common.proofs.Reply.{unless-clear, unless-first}
 use Rattle.common.proofs.Bools.{by_cases}
 use Rattle.sheet.specs.declared.record.Record.{Record}
-use Rattle.sheet.specs.declared.record.Record.TheVariants.{Whole, Cut}
+use Rattle.sheet.specs.Record.{whole}
 use Rattle.sheet.specs.Record.{record_at, part}
 use Rattle.sheet.specs.Faults.{faults_of}
 use Rattle.sheet.specs.Parse.{Progress, finished, extended, Turn, more, ended, turn_at, turn_of, parse_from}
@@ -42,11 +43,11 @@ module _ (s : List ℕ) (at : ℕ) (d : Progress) where
   turn-refused zero h q = absurd (not-suc-le-zero h)
   turn-refused (suc n) h q = rw (q, parse_from)
 
-  pub parse-cut : (n : ℕ) → 0 < n → record_at s at ≡ Cut → parse_from n s at d ≡ refused 1 at
+  pub parse-cut : (n : ℕ) → 0 < n → record_at s at ≡ None → parse_from n s at d ≡ refused 1 at
   parse-cut n h w = turn-refused n h (ap (turn_of s at d) w)
 
   -- a whole record
-  module _ (n : ℕ) {kind start len : ℕ} (h : 0 < n) (w : record_at s at ≡ Whole kind start len) where
+  module _ (n : ℕ) {kind start len : ℕ} (h : 0 < n) (w : record_at s at ≡ whole kind start len) where
     pub parse-next : {next : ℕ} {e : Progress} → turn_at s at d kind start len ≡ given (more next e)
         → parse_from n s at d ≡ parse_from (n - 1) s next e
     parse-next q = turn-next n h (ap (turn_of s at d) w ∙ q)
@@ -55,17 +56,17 @@ module _ (s : List ℕ) (at : ℕ) (d : Progress) where
     parse-ended q = turn-ended n h (ap (turn_of s at d) w ∙ q)
 
 -- what is given comes of a whole record
-pub record WholeTurn (s : List ℕ) (at : ℕ) (d : Progress) (r : Record) (t : Reply Turn) : Type 0 where
+pub record WholeTurn (s : List ℕ) (at : ℕ) (d : Progress) (r : Option Record) (t : Reply Turn) : Type 0 where
   pub kind : ℕ
   pub start : ℕ
   pub len : ℕ
-  pub whole : r ≡ Whole kind start len
+  pub whole : r ≡ whole kind start len
   pub turn : turn_at s at d kind start len ≡ t
 
-pub turn-whole : (s : List ℕ) (at : ℕ) (d : Progress) (r : Record) {t : Turn} → turn_of s at d r ≡ given t
+pub turn-whole : (s : List ℕ) (at : ℕ) (d : Progress) (r : Option Record) {t : Turn} → turn_of s at d r ≡ given t
     → WholeTurn s at d r (given t)
-turn-whole s at d (Whole kind start len) q = record { kind = kind; start = start; len = len; whole = refl; turn = q }
-turn-whole s at d Cut q = absurd (given-not-refused (sym q))
+turn-whole s at d (Some x) q = record { kind = x.kind; start = x.start; len = x.len; whole = refl; turn = q }
+turn-whole s at d None q = absurd (given-not-refused (sym q))
 
 pub more-not-ended : {next : ℕ} {d e : Progress} → given (more next d) ≡ given (ended e) → ⊥
 more-not-ended q = let z : ◌≡◌ {A = ℕ} 0 1 = cc in omega arith

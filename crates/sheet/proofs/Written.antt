@@ -9,7 +9,7 @@ use native.Mathlib.Omega.{arith}
 use lib.ListN.{length, take, drop}
 use lib.Seq.{drop-cons, drop-drop, take-add}
 use Rattle.common.proofs.Places.{Stands, stands-moved, stands-left, stands-right, stands-fits, stands_at, stands-taken}
-use Rattle.sheet.specs.declared.record.Record.TheVariants.{Whole}
+use Rattle.sheet.specs.Record.{whole}
 use Rattle.sheet.specs.Record.{byte, word, record_at, part, two_bytes, record_of}
 use Rattle.sheet.proofs.Records.{whole_here, whole-at, part_length}
 
@@ -52,7 +52,7 @@ module _ {s : List ℕ} {at : ℕ} (kind : ℕ) (body : List ℕ) (w : Stands s 
   unfolding part
   body-read = stands-taken stands-body
 
-  pub record-read : length body < 65536 → kind < 65536 → record_at s at ≡ Whole kind (at + 4) (length body)
+  pub record-read : length body < 65536 → kind < 65536 → record_at s at ≡ whole kind (at + 4) (length body)
   record-read h k =
       let len = word-two_bytes (length body) stands-length h in
       let fits : at + 4 + length body ≤ length s = omega (arith, stands-fits w, length-record_of kind body) in
@@ -72,7 +72,7 @@ module _ (s : List ℕ) (bytes : (i : ℕ) → byte s i < 256) where
   two-taken i h =
       rw (drop-cons s i 0 (omega arith), drop-cons s (suc i) 0 (omega arith)) (rw (← add-one i) (sym (two_bytes-word i)))
 
-  pub record-back : (at : ℕ) {kind len : ℕ} → record_at s at ≡ Whole kind (at + 4) len
+  pub record-back : (at : ℕ) {kind len : ℕ} → record_at s at ≡ whole kind (at + 4) len
       → take (4 + len) (drop at s) ≡ record_of kind (part s (at + 4) len)
   unfolding record_of part
   record-back at {kind} {len} w =
@@ -88,10 +88,10 @@ module _ (s : List ℕ) (bytes : (i : ℕ) → byte s i < 256) where
       (ap (take len) (drop-drop 4 at s))
 
   -- the file up to behind a record is the file up to it, and the record
-  pub record-taken : (at : ℕ) {kind start len : ℕ} → record_at s at ≡ Whole kind start len
+  pub record-taken : (at : ℕ) {kind start len : ℕ} → record_at s at ≡ whole kind start len
       → take (start + len) s ≡ take at s ++ record_of kind (part s start len)
   record-taken at {kind} {start} {len} w =
       let e = (whole-at s at w).starts in
-      let v : record_at s at ≡ Whole kind (at + 4) len = rw e at w in
+      let v : record_at s at ≡ whole kind (at + 4) len = rw e at w in
       let k : at + 4 + len ≡ at + (4 + len) = omega arith in
       rw (e, k) (take-add at (4 + len) s ∙ ap (λ l. take at s ++ l) (record-back at v))

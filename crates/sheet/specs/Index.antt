@@ -1,15 +1,13 @@
 -- The index of a sheet that was read: what the code keeps of it, and its answers.
-use Rattle.std.specs.Prelude.{ℕ, ◌+◌, ◌-◌, ◌/◌, List, get_or}
+use Rattle.std.specs.Prelude.{ℕ, ◌+◌, ◌-◌, ◌/◌, List, get_or, Result, Ok, Err}
 use Rattle.common.specs.Lists.{pad}
 use Rattle.common.specs.Reply.{Reply, given, refused}
 use Rattle.sheet.specs.declared.index.Sheet.{Sheet}
-use Rattle.sheet.specs.declared.index.Reading.{Reading}
-use Rattle.sheet.specs.declared.refusal.Verdict.{Verdict}
-use Rattle.sheet.specs.declared.refusal.Verdict.TheVariants.{Accepted, Refused}
+use Rattle.sheet.specs.declared.refusal.Refusal.{Refusal}
 use Rattle.sheet.specs.Refusal.{number_of}
 use Rattle.sheet.specs.Record.{byte, word}
 use Rattle.sheet.specs.Model.{machine_count, move_count}
-use Rattle.sheet.specs.Parse.{Parsed, nothing}
+use Rattle.sheet.specs.Parse.{Parsed}
 
 -- counts, and arrays with zeros behind what there is
 unfoldable pub index_of : Parsed → Sheet
@@ -22,23 +20,14 @@ index_of d =
       places = pad 250 d.places;
     }
 
--- what a verdict says in document 01's terms
-abbrev pub verdict_of : Verdict → Reply Sheet → Reply Sheet
-verdict_of Accepted r = r
-verdict_of (Refused cause place) r = refused (number_of cause) place
-
 -- the reply of reading a sheet: the index, or the refusal
-abbrev pub reading_of : Reading → Reply Sheet
-reading_of r = verdict_of r.verdict (given r.sheet)
+abbrev pub reading_of : Result Sheet Refusal → Reply Sheet
+reading_of (Ok sheet) = given sheet
+reading_of (Err r) = refused (number_of r.cause) r.place
 
 abbrev pub index_reply : Reply Parsed → Reply Sheet
 index_reply (given d) = given (index_of d)
 index_reply (refused number place) = refused number place
-
--- the index that comes with either reply: a refused sheet has the empty one
-abbrev pub sheet_of : Reply Parsed → Sheet
-sheet_of (given d) = index_of d
-sheet_of (refused number place) = index_of nothing
 
 -- The answers of an index over the file that was read. A machine past the count has no modes; a move past the count has the
 -- place 0, and what is read there says nothing.

@@ -1,8 +1,7 @@
 -- Reading a sheet front to back: the first faulty record refuses it, by its lowest number (1 to 8 and 21, "Order").
-use Rattle.std.specs.Prelude.{ℕ, zero, suc, ◌+◌, List, [], ◌∷◌, ◌++◌, cond, length, eqb, ltb}
+use Rattle.std.specs.Prelude.{ℕ, zero, suc, ◌+◌, List, [], ◌∷◌, ◌++◌, cond, length, eqb, ltb, Option, Some, None}
 use Rattle.common.specs.Reply.{Reply, given, refused, fault, unless}
 use Rattle.sheet.specs.declared.record.Record.{Record}
-use Rattle.sheet.specs.declared.record.Record.TheVariants.{Whole, Cut}
 use Rattle.sheet.specs.Record.{byte, record_at, part}
 use Rattle.sheet.specs.Model.{Model, empty_model, move_of}
 use Rattle.sheet.specs.Amend.{Amendment, amendment_of, instead, standing_at, exchanged, amend}
@@ -59,9 +58,9 @@ turn_at s at d kind start len =
     (unless (fault 3 (start + len) (ltb (start + len) (length s)) ∷ []) (given (ended d)))
     (given (more (start + len) (extended d kind at (part s start len)))))
 
-abbrev pub turn_of : List ℕ → ℕ → Progress → Record → Reply Turn
-turn_of s at d (Whole kind start len) = turn_at s at d kind start len
-turn_of s at d Cut = refused 1 at
+abbrev pub turn_of : List ℕ → ℕ → Progress → Option Record → Reply Turn
+turn_of s at d (Some r) = turn_at s at d r.kind r.start r.len
+turn_of s at d None = refused 1 at
 
 -- At most n records from a place on. A sheet has at most 32 + 250 + 64 + 1, so a record past those is one too many.
 unfoldable pub parse_from : ℕ → List ℕ → ℕ → Progress → Reply Parsed

@@ -1,8 +1,7 @@
 -- "The sheet": records. Four bytes give a record's body length and its kind, low byte first, and the body follows.
 -- Nothing here knows the kinds: sheets and plans are both read and written so.
-use Rattle.std.specs.Prelude.{ℕ, ◌+◌, ◌-◌, ◌*◌, ◌/◌, ◌%◌, List, [], ◌∷◌, ◌++◌, cond, length, get_or, take, drop, ltb, leb}
+use Rattle.std.specs.Prelude.{ℕ, ◌+◌, ◌-◌, ◌*◌, ◌/◌, ◌%◌, List, [], ◌∷◌, ◌++◌, cond, length, get_or, take, drop, ltb, leb, Option, Some, None}
 use Rattle.sheet.specs.declared.record.Record.{Record}
-use Rattle.sheet.specs.declared.record.Record.TheVariants.{Whole, Cut}
 
 -- the byte at a place, 0 past the end
 abbrev pub byte : List ℕ → ℕ → ℕ
@@ -12,21 +11,25 @@ byte s i = get_or s i 0
 unfoldable pub word : List ℕ → ℕ → ℕ
 word s i = byte s i + 256 * byte s (i + 1)
 
--- the record that begins at a place: its kind, where its body starts and how long that is
-unfoldable pub record_at : List ℕ → ℕ → Record
+-- a whole record: its kind, where its body starts and how long that is
+abbrev pub whole : ℕ → ℕ → ℕ → Option Record
+whole kind start len = Some (record { kind = kind; start = start; len = len })
+
+-- the record that begins at a place; none that is cut short
+unfoldable pub record_at : List ℕ → ℕ → Option Record
 record_at s at =
-    cond (leb (length s) at) Cut
-    (cond (ltb (length s - at) 4) Cut
-    (cond (ltb (length s - at - 4) (word s at)) Cut
-    (Whole (word s (at + 2)) (at + 4) (word s at))))
+    cond (leb (length s) at) None
+    (cond (ltb (length s - at) 4) None
+    (cond (ltb (length s - at - 4) (word s at)) None
+    (whole (word s (at + 2)) (at + 4) (word s at))))
 
 -- a part of a file
 unfoldable pub part : List ℕ → ℕ → ℕ → List ℕ
 part s start len = take len (drop start s)
 
-abbrev pub body_of : List ℕ → Record → List ℕ
-body_of s (Whole kind start len) = part s start len
-body_of s Cut = []
+abbrev pub body_of : List ℕ → Option Record → List ℕ
+body_of s (Some r) = part s r.start r.len
+body_of s None = []
 
 -- the body of the record that begins at a place, as that part of the file; empty where no whole record begins there
 unfoldable pub body_at : List ℕ → ℕ → List ℕ

@@ -1,10 +1,7 @@
 -- Document 01's number for each cause of the table "Why a call is turned down"; and what the code's answers say.
-use Rattle.std.specs.Prelude.{ℕ}
+use Rattle.std.specs.Prelude.{ℕ, Result, Ok, Err}
 use Rattle.common.specs.Reply.{Reply, given, refused}
-use Rattle.sheet.specs.declared.refusal.Verdict.{Verdict}
-use Rattle.sheet.specs.declared.refusal.Verdict.TheVariants.{Accepted, Refused as TurnedDown}
-use Rattle.sheet.specs.declared.refusal.Length.{Length}
-use Rattle.sheet.specs.declared.refusal.Length.TheVariants.{Bytes, Refused as Unmeasured}
+use Rattle.sheet.specs.declared.refusal.Refusal.{Refusal}
 use Rattle.sheet.specs.declared.refusal.Cause.{Cause}
 use Rattle.sheet.specs.declared.refusal.Cause.TheVariants.{
   CutShort,
@@ -53,12 +50,16 @@ number_of NoSharedMode = 19
 number_of NotAPicture = 20
 number_of Unamendable = 21
 
+-- a refusal by its cause and place
+abbrev pub refusal : Cause → ℕ → Refusal
+refusal cause place = record { cause = cause; place = place }
+
 -- a test of lent bytes: they pass, or the refusal
-abbrev pub verdict_says : Verdict → Reply Unit
-verdict_says Accepted = given tt
-verdict_says (TurnedDown cause place) = refused (number_of cause) place
+abbrev pub verdict_says : Result Unit Refusal → Reply Unit
+verdict_says (Ok u) = given tt
+verdict_says (Err r) = refused (number_of r.cause) r.place
 
 -- a plan's length, and any output's: so many bytes, or the refusal
-abbrev pub measured_of : Length → Reply ℕ
-measured_of (Bytes n) = given n
-measured_of (Unmeasured cause place) = refused (number_of cause) place
+abbrev pub measured_of : Result ℕ Refusal → Reply ℕ
+measured_of (Ok n) = given n
+measured_of (Err r) = refused (number_of r.cause) r.place

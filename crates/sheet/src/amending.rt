@@ -1,21 +1,25 @@
 // The tail of a sheet: amendments, which replace or withdraw standing moves, and the end.
 ghost use Rattle.std.specs.Prelude.{◌≡◌, List, ℕ, ◌≤◌, ◌<◌, length, get_or, eqb, cond};
-ghost use Rattle.common.specs.Lists.{filter, pad};
+ghost use Rattle.common.specs.Lists.{any, filter, pad};
 ghost use Rattle.common.specs.Reply.{refused};
+ghost use Rattle.sheet.specs.declared.kind.Kind.TheVariants.{Replacement};
 ghost use Rattle.sheet.specs.Refusal.{number_of};
 ghost use Rattle.sheet.specs.Record.{byte};
 ghost use Rattle.sheet.specs.Model.{Move, move_of};
 ghost use Rattle.sheet.specs.Amend.{named as named_by, amendment_of};
 ghost use Rattle.sheet.specs.Parse.{parse};
-ghost use Rattle.sheet.specs.Index.{reading_of, index_reply, sheet_of};
-ghost use Rattle.sheet.specs.Kept.Sent.{Keyed};
-ghost use Rattle.sheet.specs.Kept.Scanned.{is_place, Named, Stood, counts_of, Amending};
+ghost use Rattle.sheet.specs.Index.{reading_of, index_reply};
+ghost use Rattle.sheet.specs.Kept.Kinds.{kind_number};
+ghost use Rattle.sheet.specs.Kept.Sent.{key_of, Sent, Keyed};
+ghost use Rattle.sheet.specs.Kept.Held.{counts_of};
+ghost use Rattle.sheet.specs.Kept.Scanned.{is_place, Named, Stood, Amending};
 
-use crate::index::{Machine, Reading, Sheet};
-use crate::judge::{Counts, Judged, judge};
-use crate::record::{Record, wide};
-use crate::refusal::{Cause, Verdict};
-use crate::sent::{find, pair_of, repeated};
+use crate::index::{Machine, Sheet};
+use crate::judge::{Machines, nothing_behind};
+use crate::kind::Kind;
+use crate::record::Record;
+use crate::refusal::{Cause, Refusal, placed};
+use crate::sent::{Keys, pair_of};
 
 // An amendment: the machine, from mode and command of the move that it names.
 #[derive(Clone, Copy)]
@@ -30,14 +34,7 @@ impl Amendment {
     pub const MOST: usize = 64;
 }
 
-// A standing move by its number as it was sent, or that there is none.
-#[derive(Clone, Copy)]
-pub enum Found {
-    Number(usize),
-    Nothing,
-}
-
-// Places that have closed up.
+// Places that have closed up, with their count beside them, since there is no heap.
 #[derive(Clone, Copy)]
 pub struct Left {
     pub moves: usize,
@@ -45,61 +42,68 @@ pub struct Left {
 }
 
 // The amendment that a body writes: a move's body, or machine, from mode and command.
-fn named(kind: u16, body: &[u8]) -> Amendment
-    requires { (kind ≡ 4 → 4 ≤ length body.now) × ((kind ≡ 4 → ⊥) → 3 ≤ length body.now) }
-    ensures { Named (named_by (amendment_of kind body.now)) result }
+fn named(kind: Kind, body: &[u8]) -> Amendment
+    requires { (kind ≡ Replacement → 4 ≤ length body.now) × ((kind ≡ Replacement → ⊥) → 3 ≤ length body.now) }
+    ensures { Named (named_by (amendment_of (kind_number kind) body.now)) result }
 {
-    let machine = body[0];
-    let from = body[1];
-    if kind == 4 {
-        return Amendment {
-            machine,
-            from,
-            command: body[3],
-        };
-    }
+    let command = match kind {
+        Kind::Replacement => body[3],
+        _ => body[2],
+    };
     Amendment {
-        machine,
-        from,
-        command: body[2],
+        machine: body[0],
+        from: body[1],
+        command,
     }
 }
 
-// The standing move that an amendment names. A withdrawn move has the place 0.
-fn standing(places: &[u16], pairs: &[u8], commands: &[u8], owners: &[u8], a: Amendment) -> Found
-    requires { ((vs : List Move) × Keyed vs pairs.now commands.now owners.now) × (length places.now ≡ 250) }
-    ensures { (vs : List Move) (v : Move) → Keyed vs pairs.now commands.now owners.now
+// The standing move that an amendment names, by its number as it was sent. A withdrawn move has the place 0.
+fn standing(places: &[u16], keys: &Keys, a: Amendment) -> Option<usize>
+    requires { ((vs : List Move) × Keyed vs keys.now.pairs keys.now.commands keys.now.owners) × (length places.now ≡ 250) }
+    ensures { (vs : List Move) (v : Move) → Keyed vs keys.now.pairs keys.now.commands keys.now.owners
         → Named v a → Stood vs places.now v result }
 {
     let machine = a.machine;
     let from = a.from;
     // The key of a machine or mode that no sheet has would be cut off.
-    if Sheet::MACHINES <= wide(machine) {
-        return Found::Nothing;
+    if Sheet::MACHINES <= usize::from(machine) {
+        return None;
     }
     if Machine::MODES <= from {
-        return Found::Nothing;
+        return None;
     }
     let command = a.command;
-    let at = find(pairs, commands, pair_of(machine, from), command);
-    if commands[at] == 0 {
-        return Found::Nothing;
+    let at = keys.find(pair_of(machine, from), command);
+    if keys.commands[at] == 0 {
+        return None;
     }
-    let v = wide(owners[at]);
+    let v = usize::from(keys.owners[at]);
     if places[v] == 0 {
-        return Found::Nothing;
+        return None;
     }
-    Found::Number(v)
+    Some(v)
+}
+
+// Why a move behind an amendment is turned down: an earlier move has its key, or else it comes too late.
+fn late(keys: &Keys, body: &[u8]) -> Cause
+    requires { ((sent : List ℕ) × Sent sent keys.now.pairs keys.now.commands keys.now.owners) × (4 ≤ length body.now) }
+    ensures { (sent : List ℕ) → Sent sent keys.now.pairs keys.now.commands keys.now.owners
+        → number_of result ≡ cond (any (eqb (key_of (move_of body.now))) sent) 8 21 }
+{
+    if keys.repeats(body) {
+        return Cause::BadCommand;
+    }
+    Cause::Unamendable
 }
 
 // Where the record of an amended move begins: nowhere if it is withdrawn.
-fn place_of(kind: u16, at: u16) -> u16
-    ensures { result ≡ cond (eqb kind 4) at 0 }
+fn place_of(kind: Kind, at: u16) -> u16
+    ensures { result ≡ cond (eqb (kind_number kind) 4) at 0 }
 {
-    if kind == 4 {
-        return at;
+    match kind {
+        Kind::Replacement => at,
+        _ => 0,
     }
-    0
 }
 
 // The places of the moves that stand, in order.
@@ -109,13 +113,11 @@ fn closed(places: &[u16], moves: usize) -> Left
 {
     let mut packed = [0u16; Sheet::MOVES];
     let mut n: usize = 0;
-    let mut v: usize = 0;
-    while v < moves {
+    for v in 0..moves {
         if places[v] != 0 {
             packed[n] = places[v];
             n += 1;
         }
-        v += 1;
     }
     Left {
         moves: n,
@@ -124,69 +126,43 @@ fn closed(places: &[u16], moves: usize) -> Left
 }
 
 // Reads on from the first amendment, behind machines and moves.
-pub fn read_tail(
-    s: &[u8],
-    from: usize,
-    sheet: Sheet,
-    lives: [u8; Sheet::MACHINES],
-    tops: &[u8],
-    pairs: &[u8],
-    commands: &[u8],
-    owners: &[u8],
-) -> Reading
-    requires { Amending s.now (counts_of sheet) sheet.modes lives tops.now pairs.now commands.now owners.now sheet.places 0 from }
-    ensures reply { reading_of result ≡ index_reply (parse s.now) }
-    ensures index { result.sheet ≡ sheet_of (parse s.now) }
+pub fn read_tail(s: &[u8], from: usize, machines: &Machines, keys: &Keys) -> Result<Sheet, Refusal>
+    requires { Amending s.now (counts_of machines.now.sheet) machines.now.sheet.modes machines.now.sheet.live machines.now.tops
+        keys.now.pairs keys.now.commands keys.now.owners machines.now.sheet.places 0 from }
+    ensures { reading_of result ≡ index_reply (parse s.now) }
 {
-    let counts = Counts {
-        machines: sheet.machines,
-        moves: sheet.moves,
-    };
-    let modes = sheet.modes;
-    let mut places = sheet.places;
+    let mut places = machines.sheet.places;
     let mut amended: usize = 0;
     let mut at = from;
-    // Ends, since an amendment too many is faulty.
+    // Not a `for`: what is cut short is refused at the place where the loop stands. Ends, since an amendment too many is faulty.
     loop {
-        let Record::Whole { kind, start, len } = crate::reader::record_at(s, at) else {
-            return Reading::refused(Cause::CutShort, at);
+        let Some(Record { kind, start, len }) = crate::reader::record_at(s, at) else {
+            return Err(Cause::CutShort.at(at));
         };
         let end = start + len;
         let body = &s[start..end];
-        let j = judge(kind, body, counts, tops, &lives[..]);
-        if let Judged::Faulty(cause) = j {
-            return Reading::refused(cause, at);
-        }
+        let Ok(kind) = Kind::try_from(kind) else {
+            return Err(Cause::WrongKind.at(at));
+        };
+        placed(machines.judge(kind, body), at)?;
         match kind {
-            2 => {
-                if repeated(pairs, commands, body) {
-                    return Reading::refused(Cause::BadCommand, at);
-                }
-                return Reading::refused(Cause::Unamendable, at);
-            }
-            3 => {
-                if end < s.len() {
-                    return Reading::refused(Cause::TrailingBytes, end);
-                }
-                let left = closed(&places[..], counts.moves);
-                let verdict = Verdict::Accepted;
-                let packed = left.places;
-                let sheet = Sheet {
-                    machines: counts.machines,
-                    moves: left.moves,
-                    modes,
-                    live: lives,
-                    places: packed,
-                };
-                return Reading { verdict, sheet };
+            Kind::Move => return Err(late(keys, body).at(at)),
+            Kind::End => {
+                nothing_behind(s, end)?;
+                let Left { moves, places } = closed(&places[..], machines.sheet.moves);
+                return Ok(Sheet {
+                    moves,
+                    places,
+                    ..machines.sheet
+                });
             }
             _ => {
                 let a = named(kind, body);
-                let Found::Number(v) = standing(&places[..], pairs, commands, owners, a) else {
-                    return Reading::refused(Cause::Unamendable, at);
+                let Some(v) = standing(&places[..], keys, a) else {
+                    return Err(Cause::Unamendable.at(at));
                 };
                 if Amendment::MOST <= amended {
-                    return Reading::refused(Cause::Unamendable, at);
+                    return Err(Cause::Unamendable.at(at));
                 }
                 places[v] = place_of(kind, at as u16);
                 amended += 1;

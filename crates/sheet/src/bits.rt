@@ -10,7 +10,7 @@ pub fn has_mode(mask: u8, mode: u8) -> bool
         return false;
     }
     // One instruction tests a bit of a u32; a byte takes three.
-    (mask as u32 >> mode) % 2 == 1
+    (u32::from(mask) >> mode) % 2 == 1
 }
 
 // Whether the set holds a mode at or past n.

@@ -1,20 +1,17 @@
 // The index of a sheet: how many machines and moves, each machine's modes, and where each move's record begins.
 ghost use Rattle.std.specs.Prelude.{◌≡◌, ◌+◌, ◌-◌, ◌*◌, ◌<◌, length, get_or};
-ghost use Rattle.common.specs.Reply.{refused};
-ghost use Rattle.sheet.specs.Refusal.{number_of};
 ghost use Rattle.sheet.specs.Record.{body_at};
 ghost use Rattle.sheet.specs.Parse.{nothing};
-ghost use Rattle.sheet.specs.Index.{index_of, reading_of, modes_in, live_in, move_byte, guard_count_in};
+ghost use Rattle.sheet.specs.Index.{index_of, modes_in, live_in, move_byte, guard_count_in};
 
-use crate::record::{body, byte_at, wide, word_at};
-use crate::refusal::{Cause, Verdict};
+use crate::record::{body, byte_at, word_at};
 
 // The number of a machine.
-#[derive(Clone, Copy)]
+#[derive(Clone, Copy, PartialEq, Eq)]
 pub struct Machine(pub u8);
 
 // The number of a move.
-#[derive(Clone, Copy)]
+#[derive(Clone, Copy, PartialEq, Eq)]
 pub struct Move(pub u8);
 
 impl Machine {
@@ -33,6 +30,7 @@ impl Move {
     pub const LONGEST: usize = Move::HEAD + 2 * Move::GUARDS;
 }
 
+// What is kept of a sheet. Arrays with counts beside them, since there is no heap; a place of 0 is none, since 250 Options are above 512 bytes.
 #[derive(Clone, Copy)]
 pub struct Sheet {
     pub machines: usize,
@@ -40,25 +38,6 @@ pub struct Sheet {
     pub modes: [u8; Sheet::MACHINES],
     pub live: [u8; Sheet::MACHINES],
     pub places: [u16; Sheet::MOVES],
-}
-
-// The reply of reading a sheet. A refused sheet has the empty index.
-#[derive(Clone, Copy)]
-pub struct Reading {
-    pub verdict: Verdict,
-    pub sheet: Sheet,
-}
-
-impl Reading {
-    // The reply to a faulty sheet.
-    pub fn refused(cause: Cause, place: usize) -> Self
-        ensures { (reading_of result ≡ refused (number_of cause) place) × (result.sheet ≡ index_of nothing) }
-    {
-        Reading {
-            verdict: Verdict::Refused(cause, place),
-            sheet: Sheet::empty(),
-        }
-    }
 }
 
 impl Sheet {
@@ -85,33 +64,21 @@ impl Sheet {
     pub fn mode_count(self, m: Machine) -> u8
         ensures { result ≡ modes_in self m.0 }
     {
-        let i = wide(m.0);
-        if Sheet::MACHINES <= i {
-            return 0;
-        }
-        self.modes[i]
+        self.modes.get(usize::from(m.0)).copied().unwrap_or(0)
     }
 
     // The live modes of a machine, as bits.
     pub fn live_modes(self, m: Machine) -> u8
         ensures { result ≡ live_in self m.0 }
     {
-        let i = wide(m.0);
-        if Sheet::MACHINES <= i {
-            return 0;
-        }
-        self.live[i]
+        self.live.get(usize::from(m.0)).copied().unwrap_or(0)
     }
 
     // Where a move's record begins.
     fn place(self, v: Move) -> usize
         ensures { (result ≡ get_or self.places v.0 0) × (result < 65536) }
     {
-        let i = wide(v.0);
-        if Sheet::MOVES <= i {
-            return 0;
-        }
-        self.places[i] as usize
+        usize::from(self.places.get(usize::from(v.0)).copied().unwrap_or(0))
     }
 
     // Byte n of a move's body, in the file that was read.
@@ -154,21 +121,45 @@ impl Sheet {
     pub fn guard_count(self, s: &[u8], v: Move) -> usize
         ensures { result ≡ guard_count_in s.now self v.0 }
     {
-        less_four(word_at(s, self.place(v))) / 2
+        word_at(s, self.place(v)).saturating_sub(4) / 2
     }
 
     // The machine of a move's need n.
     pub fn guard_machine(self, s: &[u8], v: Move, n: u8) -> Machine
         ensures { result.0 ≡ move_byte s.now self v.0 (4 + 2 * n) }
     {
-        Machine(self.move_byte(s, v, 4 + 2 * wide(n)))
+        Machine(self.move_byte(s, v, 4 + 2 * usize::from(n)))
     }
 
     // The modes that a move's need n allows, as bits.
     pub fn guard_mask(self, s: &[u8], v: Move, n: u8) -> u8
         ensures { result ≡ move_byte s.now self v.0 (5 + 2 * n) }
     {
-        self.move_byte(s, v, 5 + 2 * wide(n))
+        self.move_byte(s, v, 5 + 2 * usize::from(n))
+    }
+}
+
+// The moves of a sheet that was read: its file, and where the record of each begins.
+#[derive(Clone, Copy)]
+pub struct Moves<'a> {
+    pub file: &'a [u8],
+    pub places: &'a [u16],
+}
+
+impl<'a> Moves<'a> {
+    // How many there are.
+    pub fn len(self) -> usize
+        ensures { result ≡ length self.entry.places.now }
+    {
+        self.places.len()
+    }
+
+    // The body of a move.
+    pub fn body(self, v: usize) -> &'a [u8]
+        requires { v < length self.places.now }
+        ensures { result.now ≡ body_at self.entry.file.now (get_or self.entry.places.now v 0) }
+    {
+        move_body(self.file, self.places, v)
     }
 }
 
@@ -177,15 +168,5 @@ pub fn move_body<'a>(file: &'a [u8], places: &[u16], v: usize) -> &'a [u8]
     requires { v < length places.now }
     ensures { result.now ≡ body_at file.now (get_or places.now v 0) }
 {
-    body(file, places[v] as usize)
-}
-
-// Four less, or 0.
-fn less_four(n: usize) -> usize
-    ensures { result ≡ n - 4 }
-{
-    if n < 4 {
-        return 0;
-    }
-    n - 4
+    body(file, usize::from(places[v]))
 }

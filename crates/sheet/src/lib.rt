@@ -3,8 +3,10 @@
 
 mod amending;
 pub mod bits;
+pub mod guard;
 pub mod index;
 mod judge;
+pub mod kind;
 pub mod promises;
 pub mod reader;
 pub mod record;

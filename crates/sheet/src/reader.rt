@@ -11,30 +11,32 @@ pub struct Records<'a> {
     pub at: usize,
 }
 
-// A reader at the front of a file.
-pub fn open<'a>(file: &'a [u8]) -> Records<'a>
-    ensures { (result.file ≡ file.entry) × (result.at ≡ 0) }
-{
-    Records { file, at: 0 }
+impl<'a> Records<'a> {
+    // A reader at the front of a file.
+    pub fn open(file: &'a [u8]) -> Records<'a>
+        ensures { (result.file ≡ file.entry) × (result.at ≡ 0) }
+    {
+        Records { file, at: 0 }
+    }
+
+    // The record that begins at the reader's place.
+    pub fn next(self) -> Option<Record>
+        ensures { result ≡ record_at self.entry.file.now self.entry.at }
+    {
+        crate::record::read(self.file, self.at)
+    }
+
+    // The same reader at another place.
+    pub fn moved(self, at: usize) -> Records<'a>
+        ensures { (result.file ≡ self.entry.file) × (result.at ≡ at) }
+    {
+        Records { at, ..self }
+    }
 }
 
-// What begins at the reader's place.
-pub fn next<'a>(r: Records<'a>) -> Record
-    ensures { result ≡ record_at r.entry.file.now r.entry.at }
-{
-    crate::record::read(r.file, r.at)
-}
-
-// The same reader at another place.
-pub fn moved<'a>(r: Records<'a>, at: usize) -> Records<'a>
-    ensures { (result.file ≡ r.entry.file) × (result.at ≡ at) }
-{
-    Records { file: r.file, at }
-}
-
-// What begins at a place of a file: every record of a sheet or a plan is read so.
-pub fn record_at(s: &[u8], at: usize) -> Record
+// The record that begins at a place of a file: every record of a sheet or a plan is read so.
+pub fn record_at(s: &[u8], at: usize) -> Option<Record>
     ensures { result ≡ record_at s.now at }
 {
-    next(moved(open(s), at))
+    Records::open(s).moved(at).next()
 }

@@ -1,92 +1,53 @@
 // Reading a sheet front to back.
 ghost use Rattle.std.specs.Prelude.{◌≡◌};
 ghost use Rattle.sheet.specs.Parse.{parse};
-ghost use Rattle.sheet.specs.Index.{reading_of, index_reply, sheet_of};
+ghost use Rattle.sheet.specs.Index.{reading_of, index_reply};
 
 use crate::amending::read_tail;
-use crate::index::{Reading, Sheet};
-use crate::judge::{Counts, Judged, first_modes, judge_end, judge_machine, judge_move};
+use crate::index::Sheet;
+use crate::judge::{Machines, nothing_behind};
+use crate::kind::Kind;
 use crate::record::Record;
-use crate::refusal::{Cause, Verdict};
-use crate::sent::{SLOTS, added};
+use crate::refusal::{Cause, Refusal, placed};
+use crate::sent::Keys;
 
 // The index of the sheet that a file is, or the refusal.
-pub fn read(s: &[u8]) -> Reading
-    ensures reply { reading_of result ≡ index_reply (parse s.now) }
-    ensures index { result.sheet ≡ sheet_of (parse s.now) }
+pub fn read(s: &[u8]) -> Result<Sheet, Refusal>
+    ensures { reading_of result ≡ index_reply (parse s.now) }
 {
-    let mut sheet = Sheet::empty();
-    // Apart from the index until the end, since they are lent at each record.
-    let mut lives = [0u8; Sheet::MACHINES];
-    // All modes of a machine as bits; none for a byte that names no machine.
-    let mut tops = [0u8; 256];
-    // The keys of the moves so far, and whose they are.
-    let mut pairs = [0u8; SLOTS];
-    let mut commands = [0u8; SLOTS];
-    let mut owners = [0u8; SLOTS];
+    let mut machines = Machines::none();
+    let mut keys = Keys::none();
     let mut at: usize = 0;
-    // Ends, since a machine or a move too many is faulty. What is neither of them nor the end begins the tail.
+    // Not a `for`: what is cut short is refused at the place where the loop stands. Ends, since a machine or a move too many is faulty.
+    // What is neither of them nor the end begins the tail.
     loop {
-        let Record::Whole { kind, start, len } = crate::reader::record_at(s, at) else {
-            return Reading::refused(Cause::CutShort, at);
+        let Some(Record { kind, start, len }) = crate::reader::record_at(s, at) else {
+            return Err(Cause::CutShort.at(at));
         };
         let end = start + len;
         let body = &s[start..end];
-        let machines = sheet.machines;
-        let moves = sheet.moves;
-        let counts = Counts { machines, moves };
-        match kind {
-            1 => {
-                let j = judge_machine(body, counts);
-                if let Judged::Faulty(cause) = j {
-                    return Reading::refused(cause, at);
-                }
-                sheet.modes[machines] = body[0];
-                lives[machines] = body[1];
-                sheet.machines = machines + 1;
-                tops[machines] = first_modes(body[0]);
+        let moves = machines.sheet.moves;
+        match Kind::try_from(kind) {
+            Ok(Kind::Machine) => {
+                placed(machines.judge_machine(body), at)?;
+                machines.add(body);
                 at = end;
             }
-            2 => {
-                let j = judge_move(body, counts, &tops[..], &lives[..]);
-                if let Judged::Faulty(cause) = j {
-                    return Reading::refused(cause, at);
+            Ok(Kind::Move) => {
+                placed(machines.judge_move(body), at)?;
+                if !keys.add(body, moves) {
+                    return Err(Cause::BadCommand.at(at));
                 }
-                if !added(
-                    &mut pairs[..],
-                    &mut commands[..],
-                    &mut owners[..],
-                    body,
-                    moves,
-                ) {
-                    return Reading::refused(Cause::BadCommand, at);
-                }
-                sheet.places[moves] = at as u16;
-                sheet.moves = moves + 1;
+                machines.sheet.places[moves] = at as u16;
+                machines.sheet.moves = moves + 1;
                 at = end;
             }
-            3 => {
-                let j = judge_end(body, machines);
-                if let Judged::Faulty(cause) = j {
-                    return Reading::refused(cause, at);
-                }
-                if end < s.len() {
-                    return Reading::refused(Cause::TrailingBytes, end);
-                }
-                sheet.live = lives;
-                let verdict = Verdict::Accepted;
-                return Reading { verdict, sheet };
+            Ok(Kind::End) => {
+                placed(machines.judge_end(body), at)?;
+                nothing_behind(s, end)?;
+                return Ok(machines.sheet);
             }
-            _ => return read_tail(
-                s,
-                at,
-                sheet,
-                lives,
-                &tops[..],
-                &pairs[..],
-                &commands[..],
-                &owners[..],
-            ),
+            _ => return read_tail(s, at, &machines, &keys),
         }
     }
 }

@@ -3,8 +3,6 @@ ghost use Rattle.std.specs.Prelude.{◌≡◌, ◌++◌, ◌+◌, ◌≤◌, len
 ghost use Rattle.sheet.specs.Record.{two_bytes};
 ghost use Rattle.sheet.specs.Kept.Written.{written};
 
-use crate::record::wide;
-
 // Writes a number at a place, two bytes.
 pub fn put_two(buffer: &mut [u8], at: usize, n: usize)
     requires { at + 2 ≤ length buffer.old }
@@ -20,7 +18,7 @@ pub fn put_header(buffer: &mut [u8], at: usize, len: usize, kind: u8)
     ensures { buffer.new ≡ written at (two_bytes len ++ two_bytes kind) buffer.old }
 {
     put_two(buffer, at, len);
-    put_two(buffer, at + 2, wide(kind));
+    put_two(buffer, at + 2, usize::from(kind));
 }
 
 // Writes bytes at a place.
@@ -28,9 +26,5 @@ pub fn put_bytes(buffer: &mut [u8], at: usize, bytes: &[u8])
     requires { at + length bytes.now ≤ length buffer.old }
     ensures { buffer.new ≡ written at bytes.now buffer.old }
 {
-    let mut i: usize = 0;
-    while i < bytes.len() {
-        buffer[at + i] = bytes[i];
-        i += 1;
-    }
+    buffer[at..at + bytes.len()].copy_from_slice(bytes);
 }

@@ -1,48 +1,25 @@
 // The walk: reads a sheet, a state and a goal, plans, then asks and obeys, and prints a line for each command.
 #![tactic(auto)]
 
-use command::walking::{Start, Turned, begin, turn};
+use command::walking::{Obeyed, Started, Turned, begin, turn};
 use plan::making::Scratch;
-use printer::{labelled, load, refusal_line, text, within};
-use sheet::index::{Machine, Move};
+use printer::{Refused, load, within};
 use std::io;
 use std::rt::Files;
 
-// A command that was sent, and the move that it was.
-fn sent_line(rt: &impl Print, m: Machine, byte: u8, v: Move) -> io::Result<()> {
-    labelled(rt, b"", m.0 as u64)?;
-    labelled(rt, b" ", byte as u64)?;
-    labelled(rt, b" ", v.0 as u64)?;
-    text(rt, b"\n")
+// A command that was sent, and the move that it was, 255 for none.
+fn sent_line(rt: &impl Print, obeyed: Obeyed) -> io::Result<()> {
+    let Obeyed { command, made } = obeyed;
+    let v = made.map_or(255, |v| v.0);
+    println!(rt; "{} {} {v}", command.machine.0, command.byte)
 }
 
 // The last line: done with so many commands, or the refusal.
 fn last_line(rt: &impl Print, turned: Turned, count: u64, bound: u64) -> io::Result<()> {
-    let Turned::Refused(cause, place) = turned else {
-        labelled(rt, b"done ", count)?;
-        labelled(rt, b" bound ", bound)?;
-        return text(rt, b"\n");
+    let Err(refusal) = turned else {
+        return println!(rt; "done {count} bound {bound}");
     };
-    refusal_line(rt, cause, place)
-}
-
-// One turn and its line. Says whether a command was sent.
-fn obeyed(
-    rt: &impl Print,
-    file: &[u8],
-    plan: &[u8],
-    state: &mut [u8],
-    goal: &[u8],
-    count: u64,
-    bound: u64,
-) -> io::Result<bool> {
-    let turned = turn(file, plan, state, goal);
-    let Turned::Sent(m, byte, v) = turned else {
-        last_line(rt, turned, count, bound)?;
-        return Ok(false);
-    };
-    sent_line(rt, m, byte, v)?;
-    Ok(true)
+    println!(rt; "{}", Refused(refusal))
 }
 
 // Asks and obeys until no command is replied, which is after as many as the bound at the latest.
@@ -54,14 +31,13 @@ fn obey(
     goal: &[u8],
     bound: u64,
 ) -> io::Result<()> {
-    let mut count: u64 = 0;
-    while count < bound {
-        if !obeyed(rt, file, plan, state, goal, count, bound)? {
-            return Ok(());
-        }
-        count += 1;
+    for count in 0..=bound {
+        let turned = turn(file, plan, state, goal);
+        let Ok(Some(obeyed)) = turned else {
+            return last_line(rt, turned, count, bound);
+        };
+        sent_line(rt, obeyed)?;
     }
-    obeyed(rt, file, plan, state, goal, count, bound)?;
     Ok(())
 }
 
@@ -69,12 +45,9 @@ fn obey(
 pub fn print_walk(rt: &impl Print, file: &[u8], state: &mut [u8], goal: &[u8]) -> io::Result<()> {
     let mut buffer = [0u8; 32944];
     let mut scratch = [0u8; Scratch::LEAST];
-    let started = begin(file, &mut buffer, &mut scratch);
-    let Start::Ready(bytes, bound) = started else {
-        let Start::Stopped(cause, place) = started else {
-            return Ok(());
-        };
-        return refusal_line(rt, cause, place);
+    let Started { bytes, bound } = match begin(file, &mut buffer, &mut scratch) {
+        Ok(started) => started,
+        Err(refusal) => return println!(rt; "{}", Refused(refusal)),
     };
     let n = within(bytes, &buffer);
     obey(rt, file, &buffer[..n], state, goal, bound)

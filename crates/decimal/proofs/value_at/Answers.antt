@@ -8,14 +8,14 @@ pub bounds-text-at : goal.bounds-text-at
 bounds-text-at c = digit-inside c.args.text.now c.args.at c.requires
 
 pub overflow_sub-result : goal.overflow_sub-result
-overflow_sub-result c = omega (arith, c.wide.ensures.0, (digit-within _ c.requires).0)
+overflow_sub-result c = omega (arith, c.from.ensures, (digit-within _ c.requires).0)
 
 pub returns : goal.returns
 returns c = (
-  rw c.wide.ensures.0 refl,
+  rw c.from.ensures refl,
   omega (
     arith,
-    c.wide.ensures.0,
+    c.from.ensures,
     (digit-within _
         c.requires).1,
   ),

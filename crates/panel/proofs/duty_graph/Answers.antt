@@ -6,9 +6,3 @@ use Rattle.panel.proofs.duty_graph.Goals as goal
 pub length_word-requires : goal.length_word-requires
 length_word-requires c = let j = c.draw in
     drawn-near _ _ j.result j.ensures.reply
-
-pub returns : goal.returns
-returns c = let j = c.draw.ensures in record {
-  reply = c.length_word.ensures ∙ ap word_of j.reply;
-  written = j.written;
-}

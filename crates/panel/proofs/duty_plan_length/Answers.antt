@@ -5,6 +5,3 @@ use Rattle.panel.proofs.duty_plan_length.Goals as goal
 
 pub length_word-requires : goal.length_word-requires
 length_word-requires c = measured-near _ c.plan_length.result c.plan_length.ensures
-
-pub returns : goal.returns
-returns c = c.length_word.ensures ∙ ap word_of c.plan_length.ensures

@@ -4,16 +4,13 @@ use Rattle.panel.proofs.Replies.{few-counts, accepted-word, refused-word, refuse
 use Rattle.panel.proofs.duty_sheet.Goals as goal
 
 pub overflow_mul-result : goal.overflow_mul-result
-overflow_mul-result c = omega (arith, few-counts _ _ c.read-reading.ensures.index)
+overflow_mul-result c = omega (arith, few-counts _ _ c.read.ensures c.in-Ok.is)
 
 pub overflow_add-result : goal.overflow_add-result
-overflow_add-result c = omega (arith, few-counts _ _ c.read-reading.ensures.index)
+overflow_add-result c = omega (arith, few-counts _ _ c.read.ensures c.in-Ok.is)
 
-pub returns-in_default : goal.returns-in_default
-returns-in_default c = accepted-word _ _ c.read-reading.ensures.reply c.in_default.is
+pub returns-in-Ok : goal.returns-in-Ok
+returns-in-Ok c = accepted-word _ _ c.read.ensures c.in-Ok.is
 
 pub refusal-requires : goal.refusal-requires
-refusal-requires c = refused-near _ _ c.read-reading.ensures.reply _ _ c.in-Refused.is
-
-pub returns : goal.returns
-returns c = c.refusal.ensures ∙ refused-word _ _ c.read-reading.ensures.reply _ _ c.in-Refused.is
+refusal-requires c = refused-near _ _ c.read.ensures c.in-Err.is

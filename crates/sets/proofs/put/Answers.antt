@@ -7,6 +7,3 @@ use Rattle.sets.proofs.put.Goals as goal
 
 pub returns-then-i-lt64 : goal.returns-then-i-lt64
 returns-then-i-lt64 c j h = rw (c.with.ensures, bit-union, bit-alone)
-
-pub returns : goal.returns
-returns c j h = rw (ne_eqb c.args.i j (omega arith)) (sym (or-false _))

@@ -5,6 +5,3 @@ use Rattle.sets.proofs.put_if.Goals as goal
 
 pub returns-then-wanted : goal.returns-then-wanted
 returns-then-wanted c j = rw (c.with.ensures, bit-union, bit-alone, c.if-wanted.true)
-
-pub returns : goal.returns
-returns c j = rw c.if-wanted.false (sym (or-false _))

@@ -1,11 +1,10 @@
 -- What judging keeps of the records read so far, counts and arrays with zeros behind what there is, and how it judges by that.
-use Rattle.std.specs.Prelude.{ℕ, ◌-◌, ◌^◌, ◌≤◌, ◌≡◌, Bool, true, false, not, cond, ◌&&◌, ◌||◌, List, [], ◌∷◌, map, length, get_or, eqb, ltb, leb}
+use Rattle.std.specs.Prelude.{ℕ, ◌-◌, ◌^◌, ◌≤◌, ◌≡◌, Bool, true, false, not, cond, ◌&&◌, ◌||◌, List, [], ◌∷◌, map, length, get_or, eqb, ltb, leb, Result, Ok, Err}
 use Rattle.common.specs.Bits.{bit, beyond}
 use Rattle.common.specs.Lists.{any, pad, up_to}
 use Rattle.common.specs.Reply.{Reply, given, refused, Fault, fault}
-use Rattle.sheet.specs.declared.judge.Counts.{Counts}
-use Rattle.sheet.specs.declared.judge.Judged.{Judged}
-use Rattle.sheet.specs.declared.judge.Judged.TheVariants.{Fine, Faulty}
+use Rattle.sheet.specs.declared.index.Sheet.{Sheet}
+use Rattle.sheet.specs.declared.refusal.Cause.{Cause}
 use Rattle.sheet.specs.Refusal.{number_of}
 use Rattle.sheet.specs.Model.{Move, Model, machine_count, move_count, guard_at, move_of, is_same_move}
 use Rattle.sheet.specs.Amend.{Draft, amendment_of}
@@ -16,9 +15,9 @@ abbrev pub fine : Reply Unit
 fine = given tt
 
 -- what judging the record at a place finds, in document 01's terms
-abbrev pub judged_of : Judged → ℕ → Reply Unit
-judged_of Fine at = fine
-judged_of (Faulty cause) at = refused (number_of cause) at
+abbrev pub judged_of : Result Unit Cause → ℕ → Reply Unit
+judged_of (Ok u) at = fine
+judged_of (Err cause) at = refused (number_of cause) at
 
 -- the set of the first n modes, the largest that a machine of n modes has
 unfoldable pub top_of : ℕ → ℕ
@@ -79,6 +78,15 @@ later_faults x at kind body =
     cond (eqb kind 2) (fault 8 at (any (is_same_move (move_of body)) x.sent.moves) ∷ late_faults x at)
     (cond (eqb kind 4 || eqb kind 5) (fault 21 at (unamendable x (amendment_of kind body)) ∷ [])
     [])
+
+-- how many machines and moves there are
+pub record Counts : Type 0 where
+  pub machines : ℕ
+  pub moves : ℕ
+
+-- those of an index
+abbrev pub counts_of : Sheet → Counts
+counts_of sheet = record { machines = sheet.machines; moves = sheet.moves }
 
 -- the counts of a model
 pub record Counted (m : Model) (counts : Counts) : Type 0 where

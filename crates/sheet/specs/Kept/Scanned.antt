@@ -1,13 +1,10 @@
--- What reading a sheet keeps of the records so far, in the index and the arrays beside it.
-use Rattle.std.specs.Prelude.{ℕ, ◌+◌, ◌*◌, ◌-◌, ◌≤◌, ◌<◌, ◌≡◌, Bool, true, false, not, List, map, eqb, length, get_or}
+-- What reading a sheet keeps of the records so far, in counts and arrays.
+use Rattle.std.specs.Prelude.{ℕ, ◌+◌, ◌*◌, ◌-◌, ◌≤◌, ◌<◌, ◌≡◌, Bool, true, false, not, List, map, eqb, length, get_or, Option, Some, None}
 use Rattle.std.proofs.Common.{Fits}
 use Rattle.std.specs.Int.{w8}
 use Rattle.common.specs.Lists.{filter, pad}
-use Rattle.sheet.specs.declared.index.Sheet.{Sheet}
-use Rattle.sheet.specs.declared.judge.Counts.{Counts}
+use Rattle.sheet.specs.Kept.Held.{Counts}
 use Rattle.sheet.specs.declared.amending.Amendment.{Amendment}
-use Rattle.sheet.specs.declared.amending.Found.{Found}
-use Rattle.sheet.specs.declared.amending.Found.TheVariants.{Number, Nothing}
 use Rattle.sheet.specs.Record.{byte, word, body_at}
 use Rattle.sheet.specs.Model.{Move, absent_move, move_of, is_same_move}
 use Rattle.sheet.specs.Amend.{Draft}
@@ -30,16 +27,12 @@ pub record Named (v : Move) (a : Amendment) : Type 0 where
   pub command : v.command ≡ a.command
 
 -- the standing move that is the same as v by machine, from mode and command: its number, and that no other is, or that none is
-pub record Stood (vs : List Move) (places : List ℕ) (v : Move) (r : Found) : Type 0 where
-  pub below : (n : ℕ) → r ≡ Number n → n < length vs
-  pub stands : (n : ℕ) → r ≡ Number n → 0 < get_or places n 0
-  pub same : (n : ℕ) → r ≡ Number n → is_same_move v (get_or vs n absent_move) ≡ true
-  pub only : (n j : ℕ) → r ≡ Number n → j < length vs → (j ≡ n → ⊥) → is_same_move v (get_or vs j absent_move) ≡ false
-  pub none : r ≡ Nothing → (j : ℕ) → j < length vs → 0 < get_or places j 0 → is_same_move v (get_or vs j absent_move) ≡ false
-
--- the machines and moves that an index has
-abbrev pub counts_of : Sheet → Counts
-counts_of sheet = record { machines = sheet.machines; moves = sheet.moves }
+pub record Stood (vs : List Move) (places : List ℕ) (v : Move) (r : Option ℕ) : Type 0 where
+  pub below : (n : ℕ) → r ≡ Some n → n < length vs
+  pub stands : (n : ℕ) → r ≡ Some n → 0 < get_or places n 0
+  pub same : (n : ℕ) → r ≡ Some n → is_same_move v (get_or vs n absent_move) ≡ true
+  pub only : (n j : ℕ) → r ≡ Some n → j < length vs → (j ≡ n → ⊥) → is_same_move v (get_or vs j absent_move) ≡ false
+  pub none : r ≡ None → (j : ℕ) → j < length vs → 0 < get_or places j 0 → is_same_move v (get_or vs j absent_move) ≡ false
 
 -- machines and sent moves of a draft
 pub record Drafted (x : Draft) (counts : Counts) (modes lives tops pairs commands owners : List ℕ) : Type 0 where
@@ -47,22 +40,22 @@ pub record Drafted (x : Draft) (counts : Counts) (modes lives tops pairs command
   pub modes-in : modes ≡ pad 32 x.sent.modes
   pub keyed : Keyed x.sent.moves pairs commands owners
 
--- Machines and moves have been read, and no amendment: the index and the arrays hold them, and what is left of the file
+-- Machines and moves have been read, and no amendment: the counts and the arrays hold them, and what is left of the file
 -- decides the reply.
-pub record Scanned (s : List ℕ) (sheet : Sheet) (lives tops pairs commands owners : List ℕ) (at : ℕ) : Type 0 where
+pub record Scanned (s : List ℕ) (counts : Counts) (modes lives tops pairs commands owners places : List ℕ) (at : ℕ) : Type 0 where
   pub read : Progress
-  pub drafted : Drafted read.draft (counts_of sheet) sheet.modes lives tops pairs commands owners
+  pub drafted : Drafted read.draft counts modes lives tops pairs commands owners
   pub untouched : read.draft.standing ≡ read.draft.sent.moves
   pub unamended : read.draft.amended ≡ 0
-  pub places-in : sheet.places ≡ pad 250 read.places
-  pub places-are : length read.places ≡ sheet.moves
+  pub places-in : places ≡ pad 250 read.places
+  pub places-are : length read.places ≡ counts.moves
   pub stand : read.draft.standing ≡ map (move_there s) read.places
   pub positive : (v : ℕ) → v < length read.places → 0 < get_or read.places v 0
-  pub started : 0 < sheet.machines + sheet.moves → 0 < at
+  pub started : 0 < counts.machines + counts.moves → 0 < at
   -- so where a record begins fits 16 bits
-  pub near : at ≤ 6 * sheet.machines + 24 * sheet.moves
+  pub near : at ≤ 6 * counts.machines + 24 * counts.moves
   pub bytes : (i : ℕ) → Fits w8 (byte s i)
-  pub leads : parse s ≡ parse_from (347 - (sheet.machines + sheet.moves)) s at read
+  pub leads : parse s ≡ parse_from (347 - (counts.machines + counts.moves)) s at read
 
 -- Amendments are read: where the record of each sent move begins, as amended, 0 for a withdrawn one.
 pub record Amending (s : List ℕ) (counts : Counts) (modes lives tops pairs commands owners places : List ℕ) (amended at : ℕ)

@@ -1,4 +1,3 @@
-use Prim.Native.Nat.{◌-◌}
 use lib.ListN.{length}
 use Rattle.clean.specs.Kept.{move_by}
 use Rattle.sheet.proofs.Pieces.{CountedUpto}
@@ -6,6 +5,3 @@ use Rattle.clean.proofs.cleaning.moves_length.Given as goal
 
 abbrev pub invariant-loop-v : goal.invariant-loop-v
 invariant-loop-v l = CountedUpto (move_by l.file l.places) (length l.places) l.n l.v
-
-abbrev pub decreases-loop-v : goal.decreases-loop-v
-decreases-loop-v l = length l.places - l.v

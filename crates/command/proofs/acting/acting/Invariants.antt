@@ -1,12 +1,7 @@
-use Prim.Native.Nat.{◌-◌}
-use lib.ListN.{length}
 use Rattle.sheet.specs.Model.{Model}
 use Rattle.sheet.specs.Kept.Indexed.{Listed}
 use Rattle.command.proofs.ActingLoops.{Unanswered}
 use Rattle.command.proofs.acting.acting.Given as goal
 
 abbrev pub invariant-loop-v : goal.invariant-loop-v
-invariant-loop-v l = (d : Model) → Listed d l.file l.places → Unanswered d l.state l.m.0 l.command l.v
-
-abbrev pub decreases-loop-v : goal.decreases-loop-v
-decreases-loop-v l = length l.places - l.v
+invariant-loop-v l = (d : Model) → Listed d l.moves.file.now l.moves.places.now → Unanswered d l.state l.m.0 l.command l.v

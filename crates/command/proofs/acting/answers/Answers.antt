@@ -8,10 +8,10 @@ pub returns-then-body-m : goal.returns-then-body-m
 returns-then-body-m c =
     elim c.then-body-m.branch [
       | then-body-m-via-then-body-m w ↦ other-machine _ _ _ _ _ w.if-body-m.true
-      | then-body-m-via-else-body-m+then-body-mode w ↦ other-mode _ _ _ _ _ w.if-body-mode.true-raw
-      | then-body-m-via-else-body-m+else-body-mode+then-body-command w ↦ other-command _ _ _ _ _ w.if-body-command.true-raw
+      | then-body-m-via-else-body-m+then-body-mode w ↦ other-mode _ _ _ _ _ w.if-body-mode.true
+      | then-body-m-via-else-body-m+else-body-mode+then-body-command w ↦ other-command _ _ _ _ _ w.if-body-command.true
     ]
 
 pub returns : goal.returns
-returns c = needs-left _ _ _ _ _ c.if-body-m.false c.if-body-mode.false-raw c.if-body-command.false-raw
+returns c = needs-left _ _ _ _ _ c.if-body-m.false c.if-body-mode.false c.if-body-command.false
     c.ready.ensures

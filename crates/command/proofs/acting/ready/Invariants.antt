@@ -1,11 +1,6 @@
-use Prim.Native.Nat.{◌-◌}
-use lib.ListN.{length}
-use Rattle.sheet.proofs.NeedLoop.{NeedsUpto}
+use Rattle.sheet.proofs.GuardLoop.{GuardsUpto}
 use Rattle.command.proofs.ActingLoops.{Holding}
 use Rattle.command.proofs.acting.ready.Given as goal
 
-abbrev pub invariant-loop-at : goal.invariant-loop-at
-invariant-loop-at l = NeedsUpto (Holding l.state) l.body l.at
-
-abbrev pub decreases-loop-at : goal.decreases-loop-at
-decreases-loop-at l = length l.body - l.at
+abbrev pub invariant-loop-guard : goal.invariant-loop-guard
+invariant-loop-guard l = GuardsUpto (Holding l.state) l.body l.guard-iterator

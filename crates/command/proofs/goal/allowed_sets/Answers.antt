@@ -1,59 +1,34 @@
-use Prim.Native.Nat.{◌<◌}
-use mathlib.Core.Path.{refl}
-use native.Mathlib.Omega.{arith}
-use Rattle.sets.proofs.Members.{taken-shorter, taken-rest}
 use Rattle.plan.specs.Reading.{groups_in}
 use Rattle.plan.proofs.WithinModes.{group-machines}
-use Rattle.command.proofs.AllowedGroups.{allows-masks, sets-none, sets-place, sets-size, sets-next, sets_end}
+use Rattle.command.proofs.AllowedGroups.{allows-masks, sets-place, sets-size, sets-next, sets_end}
 use borrow.Author.Rules.{rules}
 use Rattle.command.proofs.goal.allowed_sets.Goals as goal
 
-pub loop-rest-init : goal.loop-rest-init
-loop-rest-init c = sets-none refl (omega arith)
-
-pub overflow_cast-k : goal.overflow_cast-k
-overflow_cast-k c = let few : c.lowest-k.result < 32 = search sets-place in
-    omega arith
-
 pub size_of-n-requires : goal.size_of-n-requires
-size_of-n-requires c = (search rules, search sets-place)
-
-pub offset_bounds-members-k : goal.offset_bounds-members-k
-offset_bounds-members-k c = let few : c.lowest-k.result < 32 = search sets-place in
-    omega arith
+size_of-n-requires c = (search rules, search (sets-place, c.in-Some.ensures))
 
 pub bounds-members-k : goal.bounds-members-k
-bounds-members-k c = let few : c.lowest-k.result < 32 = search sets-place in
-    search rules
+bounds-members-k c = rw c.requires.2 (search (sets-place, c.in-Some.ensures))
 
 pub within-requires : goal.within-requires
-within-requires c = let p = c.requires in
-    let (m, plan, state, starts, wish, kept, allows, only, sets) = p.0 in
-    let u = c.loop-rest.invariant in
-    let z = c.loop-rest-test.true in
-    let e = c.lowest-k.ensures in
-    let en = c.size_of-n.ensures.0 in (
+within-requires c =
+    let (m, wish, kept, allows, only, sets) = c.requires.0 in
+    let t = c.in-Some.ensures.steps in
+    let u = c.loop-k.invariant in (
       m,
-      groups_in m plan,
-      c.lowest-k.result,
+      groups_in m c.args.question.now.plan.now,
+      c.in-Some.k,
       rw c.weights.ensures kept.held,
-      allows-masks allows kept.held.weighed.valid p.1,
-      group-machines sets (sets-place u z e kept only),
-      sets-size u z e kept only en,
+      allows-masks allows kept.held.weighed.valid c.requires.1,
+      group-machines sets (sets-place u t.some t.first kept only),
+      sets-size u t.some t.first kept only c.size_of-n.ensures.0,
     )
 
-pub offset_bounds-r-k : goal.offset_bounds-r-k
-offset_bounds-r-k c = let few : c.lowest-k.result < 32 = search sets-place in
-    omega arith
-
 pub bounds-r-k : goal.bounds-r-k
-bounds-r-k c = search sets-place
+bounds-r-k c = search (sets-place, c.in-Some.ensures)
 
-pub loop-rest-smaller : goal.loop-rest-smaller
-loop-rest-smaller c = search (taken-shorter, taken-rest)
-
-pub loop-rest-preserved : goal.loop-rest-preserved
-loop-rest-preserved c = search (sets-next, taken-rest)
+pub loop-k-preserved : goal.loop-k-preserved
+loop-k-preserved c = search (sets-next, c.in-Some.ensures)
 
 pub returns : goal.returns
-returns c = search sets_end
+returns c = search (sets_end, c.in-None.ensures)

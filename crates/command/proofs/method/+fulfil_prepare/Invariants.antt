@@ -10,4 +10,4 @@ decreases-fulfil l = 2 * l.group.0 + 1
 
 -- preparing: by the group of the move
 abbrev pub decreases-prepare : goal.decreases-prepare
-decreases-prepare l = 2 * group_of (numbers_in l.facts.now (machines_in l.state.now)) (byte l.b.now 0)
+decreases-prepare l = 2 * group_of (numbers_in l.question.now.facts.now (machines_in l.question.now.state.now)) (byte l.b.now 0)

@@ -1,31 +1,17 @@
-use mathlib.Core.Path.{◌∙◌}
-use native.Mathlib.Omega.{arith}
-use borrow.Author.Rules.{rules}
-use Rattle.command.proofs.StateTest.{pairs-none, pairs_next, pairs_end, bad-mode, bad-tag}
+use Rattle.command.proofs.StateTest.{pairs_next, pairs_end, bad-mode, bad-tag}
 use Rattle.command.proofs.state.first_bad.Goals as goal
-use Rattle.command.proofs.state.first_bad.Goals.{then-modes-at-via-else-modes-at+then-tag_at-ge2}
-use Rattle.command.proofs.state.first_bad.Goals.{then-modes-at-via-then-modes-at}
+use Rattle.command.proofs.state.first_bad.Goals.{then-modes-i-via-else-modes-i+then-tag_at-ge2}
+use Rattle.command.proofs.state.first_bad.Goals.{then-modes-i-via-then-modes-i}
 
-pub loop-m-init : goal.loop-m-init
-loop-m-init c = (search rules, pairs-none)
-
-pub returns-then-modes-at : goal.returns-then-modes-at
-returns-then-modes-at c m h =
-    let inv = c.loop-m.invariant.1 in
-    c.wide-at.ensures.0 ∙ elim c.then-modes-at.branch [
-      | then-modes-at-via-then-modes-at w ↦
-          bad-mode inv c.mode_at.ensures (omega arith) m h (rw c.wide-at.ensures.0 at w.if-modes-at.true)
-      | then-modes-at-via-else-modes-at+then-tag_at-ge2 w ↦
-          bad-tag inv c.mode_at.ensures (omega arith) m h w.tag_at.ensures w.if-tag_at-ge2.true-raw
+pub returns-then-modes-i : goal.returns-then-modes-i
+returns-then-modes-i c =
+    elim c.then-modes-i.branch [
+      | then-modes-i-via-then-modes-i w ↦ search bad-mode
+      | then-modes-i-via-else-modes-i+then-tag_at-ge2 w ↦ search bad-tag
     ]
 
-pub loop-m-preserved : goal.loop-m-preserved
-loop-m-preserved c = (
-  search rules,
-  pairs_next
-      c.loop-m.invariant.1 c.mode_at.ensures
-      (rw c.wide-at.ensures.0 at c.if-modes-at.false) c.tag_at.ensures c.if-tag_at-ge2.false-raw,
-)
+pub loop-i-preserved : goal.loop-i-preserved
+loop-i-preserved c = search pairs_next
 
 pub returns : goal.returns
-returns c m h = pairs_end c.loop-m.invariant.1 (omega arith) m h
+returns c = search pairs_end

@@ -6,4 +6,4 @@ use Rattle.command.proofs.state.mode_at.Goals as goal
 
 pub returns : goal.returns
 returns c = let state = c.args.state.now in
-    ap (λ i. byte state (2 * i)) c.wide.ensures.0 ∙ sym (mode-place state _)
+    ap (λ i. byte state (2 * i)) c.from.ensures ∙ sym (mode-place state _)

@@ -6,4 +6,4 @@ use Rattle.command.proofs.state.put_mode.Goals as goal
 
 pub returns : goal.returns
 unfolding with_mode
-returns c = ap (λ i. set c.args.state.now (2 * i) c.args.mode) c.wide-i.ensures.0
+returns c = ap (λ i. set c.args.state.now (2 * i) c.args.mode) c.from-i.ensures

@@ -6,4 +6,4 @@ use Rattle.command.proofs.state.tag_of.Goals as goal
 
 pub returns : goal.returns
 returns c = let state = c.args.state.now in
-    c.byte_at.ensures ∙ ap (λ i. byte state (2 * i + 1)) c.wide.ensures.0 ∙ sym (tag-place state _)
+    c.byte_at.ensures ∙ ap (λ i. byte state (2 * i + 1)) c.from.ensures ∙ sym (tag-place state _)

@@ -4,11 +4,11 @@ use Rattle.joining.proofs.joining.first_without.Goals as goal
 pub loop-i-init : goal.loop-i-init
 loop-i-init c = search left-none
 
-pub returns-then-masks-i-eq0 : goal.returns-then-masks-i-eq0
-returns-then-masks-i-eq0 c = without-found c.loop-i.invariant c.loop-i-test.true c.if-masks-i-eq0.true
+pub returns-then-masks-i-eq0-clause-first : goal.returns-then-masks-i-eq0-clause-first
+returns-then-masks-i-eq0-clause-first c = without-found c.loop-i.invariant c.loop-i-test.true c.if-masks-i-eq0.true
 
 pub loop-i-preserved : goal.loop-i-preserved
 loop-i-preserved c = search left-next
 
-pub returns : goal.returns
-returns c = without-missing c.loop-i.invariant c.loop-i-test.false
+pub returns-clause-first : goal.returns-clause-first
+returns-clause-first c = without-missing c.loop-i.invariant c.loop-i-test.false

@@ -1,4 +1,5 @@
 use mathlib.Core.Path.{sym, ap}
+use native.Mathlib.Nat.{le_refl}
 use native.Mathlib.Omega.{arith}
 use Rattle.common.specs.Reply.{length_of}
 use Rattle.joining.specs.Join.{Goals}
@@ -16,26 +17,26 @@ of c = masks-of _ (omega (arith, c.shared-masks.type_inv)) c.longest-n.ensures c
 held : (c : After-shared-masks) → MasksOf c.requires.0 c.shared-masks.result c.longest-n.result
 held c = of c _ c.requires.1
 
-pub first_without-without-requires : goal.first_without-without-requires
-first_without-without-requires c = masks-within (held (goal.at.first_without-without-requires c).After-shared-masks)
+pub first_without-requires : goal.first_without-requires
+first_without-requires c = masks-within (held (goal.at.first_without-requires c).After-shared-masks)
 
-pub returns-then-without-n : goal.returns-then-without-n
-returns-then-without-n c =
+pub returns-in-Some : goal.returns-in-Some
+returns-in-Some c =
     let none = λ (each : Goals) (h : SplitsShort c.args.goals.now each).
-    without-refused (of (goal.at.returns-then-without-n c).After-shared-masks each h) _ c.first_without-without.ensures
-    c.if-without-n.true in
+    without-refused (of (goal.at.returns-in-Some c).After-shared-masks each h) _ c.in-Some.ensures.first
+    c.in-Some.ensures.inside in
     record {
-      reply = λ each h. ap length_of (none each h);
+      reply = λ each h. rw c.at.ensures (ap length_of (none each h));
       written = λ each h. refusal-leaves _ (none each h);
     }
 
 pub returns-then-out-n : goal.returns-then-out-n
 returns-then-out-n c =
     let no_room = λ (each : Goals) (h : SplitsShort c.args.goals.now each).
-    room-refused (of (goal.at.returns-then-out-n c).After-shared-masks each h) _ c.first_without-without.ensures
-    c.if-without-n.false c.if-out-n.true in
+    room-refused (of (goal.at.returns-then-out-n c).After-shared-masks each h) _ c.in_default.ensures.first
+    (le_refl _) c.if-out-n.true in
     record {
-      reply = λ each h. ap length_of (no_room each h);
+      reply = λ each h. rw c.at-then-out-n.ensures (ap length_of (no_room each h));
       written = λ each h. refusal-leaves _ (no_room each h);
     }
 
@@ -49,8 +50,8 @@ pub put_bytes-requires : goal.put_bytes-requires
 put_bytes-requires c = omega (arith, masks-taken (held (goal.at.put_bytes-requires c).After-shared-masks), c.if-out-n.false)
 
 pub returns : goal.returns
-returns c = let first = c.first_without-without.ensures in
-    let none = c.if-without-n.false in
+returns c = let first = c.in_default.ensures.first in
+    let none = le_refl _ in
     let room = c.if-out-n.false in record {
       reply = λ each h. shared-length (of (goal.at.returns c).After-shared-masks each h) _ first none room;
       written = λ each h. shared-written (of (goal.at.returns c).After-shared-masks each h) _ first none room _ c.put_bytes.ensures;

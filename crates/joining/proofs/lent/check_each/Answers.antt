@@ -1,18 +1,19 @@
-use Rattle.joining.proofs.Splitting.{read_whole}
+use mathlib.Core.Path.{◌≡◌, sym, ap, ◌∙◌}
+use Rattle.sheet.specs.Refusal.{verdict_says}
+use Rattle.sheet.proofs.Passing.{passed-on}
 use Rattle.joining.proofs.LentLoops.{passed_none, passed-next, passed-refused, passed-end}
 use Rattle.joining.proofs.lent.check_each.Goals as goal
 
-pub loop-at-init : goal.loop-at-init
-loop-at-init c = search passed_none
+pub loop-goal-init : goal.loop-goal-init
+loop-goal-init c = let e : c.into_iter-goal-iterator.result.rest.now ≡ c.args.goals.now = search in rw e (search passed_none)
 
-pub goal_at-requires : goal.goal_at-requires
-goal_at-requires c = search read_whole
+pub returns-in_err-check : goal.returns-in_err-check
+returns-in_err-check c m each q e h =
+    rw (passed-on c.from_residual.ensures.1)
+    (sym (ap verdict_says c.in_err-check.was) ∙ search (passed-refused, c.in-Some.ensures, c.in_err-check.was))
 
-pub returns-in_default : goal.returns-in_default
-returns-in_default c = search passed-refused
-
-pub loop-at-preserved : goal.loop-at-preserved
-loop-at-preserved c = search passed-next
+pub loop-goal-preserved : goal.loop-goal-preserved
+loop-goal-preserved c = search (passed-next, c.in-Some.ensures, c.in_ok-check.was)
 
 pub returns : goal.returns
-returns c = search passed-end
+returns c = search (passed-end, c.in-None.ensures)

@@ -1,16 +1,12 @@
-use Rattle.joining.proofs.LentLoops.{longest-none, longest-longer, longest-as-long, longest-end}
+use mathlib.Core.Path.{◌≡◌}
+use Rattle.joining.proofs.LentLoops.{longest-none, longest-next, longest-end}
 use Rattle.joining.proofs.lent.longest.Goals as goal
-use Rattle.joining.proofs.lent.longest.Goals.{then-r-n, else-r-n}
 
-pub loop-at-init : goal.loop-at-init
-loop-at-init c = search longest-none
+pub loop-goal-init : goal.loop-goal-init
+loop-goal-init c = let e : c.into_iter-goal-iterator.result.rest.now ≡ c.args.goals.now = search in rw e (search longest-none)
 
-pub loop-at-preserved : goal.loop-at-preserved
-loop-at-preserved c =
-    elim c.if-r-n.branch [
-      | then-r-n w ↦ rw w.r-is (search (longest-longer, w.if-r-n.true))
-      | else-r-n w ↦ rw w.r-is (search (longest-as-long, w.if-r-n.false))
-    ]
+pub loop-goal-preserved : goal.loop-goal-preserved
+loop-goal-preserved c = search (longest-next, c.in-Some.ensures)
 
 pub returns : goal.returns
-returns c = search longest-end
+returns c = search (longest-end, c.in-None.ensures)

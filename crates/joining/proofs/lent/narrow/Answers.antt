@@ -1,5 +1,5 @@
 use Rattle.sets.specs.Kept.Sets.{both}
-use Rattle.joining.proofs.NarrowLoop.{narrowed-upto-none, narrowed-upto-next, narrowed-upto-end}
+use Rattle.joining.proofs.NarrowLoop.{narrowed-upto-none, narrowed-upto-next}
 use Rattle.joining.proofs.lent.narrow.Goals as goal
 
 pub loop-i-init : goal.loop-i-init
@@ -8,9 +8,3 @@ loop-i-init c = search narrowed-upto-none
 pub loop-i-preserved : goal.loop-i-preserved
 unfolding both
 loop-i-preserved c = search narrowed-upto-next
-
-pub shape_of-masks : goal.shape_of-masks
-shape_of-masks c = c.loop-i.invariant.size
-
-pub returns : goal.returns
-returns c = search narrowed-upto-end

@@ -1,18 +1,15 @@
-use Rattle.joining.proofs.Splitting.{read_whole}
+use mathlib.Core.Path.{◌≡◌}
 use Rattle.joining.proofs.SharedLoop.{shared-none, shared-short, shared-next, shared-end}
 use Rattle.joining.proofs.lent.shared.Goals as goal
 
-pub loop-at-init : goal.loop-at-init
-loop-at-init c = search shared-none
-
-pub goal_at-requires : goal.goal_at-requires
-goal_at-requires c = search read_whole
+pub loop-goal-init : goal.loop-goal-init
+loop-goal-init c = let e : c.into_iter-goal-iterator.result.rest.now ≡ c.args.goals.now = search in rw e (search shared-none)
 
 pub narrow-requires : goal.narrow-requires
-narrow-requires c = search shared-short
+narrow-requires c = search (shared-short, c.in-Some.ensures)
 
-pub loop-at-preserved : goal.loop-at-preserved
-loop-at-preserved c = search shared-next
+pub loop-goal-preserved : goal.loop-goal-preserved
+loop-goal-preserved c = search (shared-next, c.in-Some.ensures)
 
 pub returns : goal.returns
-returns c = search shared-end
+returns c = search (shared-end, c.in-None.ensures)

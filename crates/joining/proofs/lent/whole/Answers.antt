@@ -1,14 +1,16 @@
-use Rattle.joining.proofs.LentLoops.{whole-none, whole-next, whole-many, whole-end}
+use native.Mathlib.Omega.{arith}
+use Rattle.joining.proofs.LentLoops.{whole-none, whole-next, whole-past, whole-end}
 use Rattle.joining.proofs.lent.whole.Goals as goal
+use Rattle.joining.proofs.lent.whole.Goals.{else-loop-test, then-loop-test+then-goals-at}
 
-pub loop-at-init : goal.loop-at-init
-loop-at-init c = search whole-none
+pub loop-init : goal.loop-init
+loop-init c = search whole-none
 
-pub returns-then-left-eq0 : goal.returns-then-left-eq0
-returns-then-left-eq0 c = search whole-many
-
-pub loop-at-preserved : goal.loop-at-preserved
-loop-at-preserved c = search whole-next
+pub loop-preserved : goal.loop-preserved
+loop-preserved c = search whole-next
 
 pub returns : goal.returns
-returns c = search whole-end
+returns c = elim c.loop-test.branch [
+  | else-loop-test w ↦ whole-end _ (omega (arith, w.loop-test.false)) c.loop.invariant
+  | then-loop-test+then-goals-at w ↦ whole-past _ c.loop.invariant w.if-goals-at.true
+]

@@ -3,7 +3,7 @@ use Rattle.picture.proofs.ReadShown.{not-read, shown-judged, shown_read}
 use Rattle.picture.proofs.graph.read_matched.Goals as goal
 
 pub returns-then-not-all_in_turn : goal.returns-then-not-all_in_turn
-returns-then-not-all_in_turn c = let r = not-read _ _ (shown-judged c.requires ∙ sym c.all_in_turn.ensures ∙ c.if-not-all_in_turn.true) in record { reply = r.0; written = r.1 }
+returns-then-not-all_in_turn c = let r = not-read _ _ (shown-judged c.requires ∙ sym c.all_in_turn.ensures ∙ c.if-not-all_in_turn.true) in record { reply = rw c.at.ensures r.0; written = r.1 }
 
 pub write_bytes-requires : goal.write_bytes-requires
 write_bytes-requires c = c.requires.shows

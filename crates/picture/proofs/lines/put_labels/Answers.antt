@@ -1,21 +1,18 @@
-use Rattle.sets.proofs.Members.{taken-shorter, taken-rest}
+use mathlib.Core.Path.{◌≡◌}
 use Rattle.picture.proofs.SetRows.{labels-start, labels-room, labels-more, labels-end}
 use Rattle.picture.proofs.lines.put_labels.Goals as goal
 
-pub loop-rest-init : goal.loop-rest-init
-loop-rest-init c = search labels-start
+pub loop-i-init : goal.loop-i-init
+loop-i-init c = let e : c.into_iter-i-iterator.result.rest ≡ c.args.machines = search in rw e (search labels-start)
 
 pub put_number-end-requires : goal.put_number-end-requires
-put_number-end-requires c = search labels-room
+put_number-end-requires c = search (labels-room, c.in-Some.ensures)
 
-pub loop-rest-smaller : goal.loop-rest-smaller
-loop-rest-smaller c = search (taken-shorter, taken-rest)
-
-pub loop-rest-preserved : goal.loop-rest-preserved
-loop-rest-preserved c = search (labels-more, taken-rest)
+pub loop-i-preserved : goal.loop-i-preserved
+loop-i-preserved c = search (labels-more, c.in-Some.ensures)
 
 pub shape_of-out : goal.shape_of-out
-shape_of-out c = c.loop-rest.invariant.size
+shape_of-out c = c.loop-i.invariant.size
 
 pub returns : goal.returns
-returns c = let r = labels-end _ _ _ _ c.loop-rest.invariant c.loop-rest-test.false in record { end = r.0; written = r.1 }
+returns c = let r = labels-end _ _ _ _ c.loop-i.invariant c.in-None.ensures.steps.0 in record { end = r.0; written = r.1 }

@@ -1,10 +1,5 @@
-use lib.ListN.{length}
-use Rattle.sets.specs.Kept.Sets.{elements}
 use Rattle.picture.proofs.SetRows.{PairsBegun}
 use Rattle.picture.proofs.lines.put_pairs.Given as goal
 
-abbrev pub invariant-loop-rest : goal.invariant-loop-rest
-invariant-loop-rest l = PairsBegun l.initial.out l.at l.targets l.a l.rest l.end l.out
-
-abbrev pub decreases-loop-rest : goal.decreases-loop-rest
-decreases-loop-rest l = length (elements l.rest)
+abbrev pub invariant-loop-k : goal.invariant-loop-k
+invariant-loop-k l = PairsBegun l.initial.out l.at l.targets l.a l.k-iterator.rest l.end l.out

@@ -5,14 +5,15 @@ use Rattle.picture.proofs.matching.read_edges.Goals as goal
 pub loop-a-init : goal.loop-a-init
 loop-a-init c = search edges_none
 
-pub read_row-row-requires : goal.read_row-row-requires
-read_row-row-requires c = (search rules, search rules, search rules)
+pub read_row-requires : goal.read_row-requires
+read_row-requires c = (search rules, search rules, search rules)
 
-pub returns-then-not-row : goal.returns-then-not-row
-returns-then-not-row c = search edges-stop
+pub returns-in_err-row : goal.returns-in_err-row
+returns-in_err-row c =
+    rw c.from_residual.ensures (edges-stop _ _ _ c.loop-a.invariant c.loop-a-test.true c.requires.1 c.in_err-row.ensures)
 
 pub loop-a-preserved : goal.loop-a-preserved
-loop-a-preserved c = search edges-next
+loop-a-preserved c = search (edges-next, c.in_ok-row.ensures)
 
 pub returns : goal.returns
 returns c = search edges-end

@@ -9,20 +9,20 @@ loop-more-init c = search label-none
 pub overflow_add-end : goal.overflow_add-end
 overflow_add-end c = search label-room
 
-pub number_above-i-requires : goal.number_above-i-requires
-number_above-i-requires c = (search label-onward, search rules)
+pub number_above-requires : goal.number_above-requires
+number_above-requires c = (search label-onward, search rules)
 
-pub returns-then-not-i : goal.returns-then-not-i
-returns-then-not-i c = search label-stops
+pub returns-in_err-i : goal.returns-in_err-i
+returns-in_err-i c = rw c.from_residual.ensures (label-stops _ _ c.loop-more.invariant c.loop-more-test.true c.in_err-i.ensures)
 
 pub with-machines-requires : goal.with-machines-requires
-with-machines-requires c = search label_small
+with-machines-requires c = search (label_small, c.in_ok-i.ensures)
 
 pub loop-more-smaller : goal.loop-more-smaller
-loop-more-smaller c = search label-less
+loop-more-smaller c = search (label-less, c.in_ok-i.ensures)
 
 pub loop-more-preserved : goal.loop-more-preserved
-loop-more-preserved c = search label-next
+loop-more-preserved c = search (label-next, c.in_ok-i.ensures)
 
 pub returns-then-not-stands : goal.returns-then-not-stands
 returns-then-not-stands c = search label-other

@@ -1,26 +1,30 @@
 use mathlib.Core.Path.{refl}
 use borrow.Author.Rules.{rules}
 use Rattle.picture.proofs.NodeLoop.{nodes-none, nodes-end, node-named, node-byte, node-less}
-use Rattle.picture.proofs.NodeLoop.{node-opened, node-stops, node-next}
+use Rattle.picture.proofs.NodeLoop.{node-opened, node-stops, node-again, node-next}
 use Rattle.picture.proofs.matching.read_nodes.Goals as goal
 
-pub loop-label-init : goal.loop-label-init
-loop-label-init c = (refl, search nodes-none)
+pub loop-seen-init : goal.loop-seen-init
+loop-seen-init c = (refl, search nodes-none)
 
-pub read_node-label-requires : goal.read_node-label-requires
-read_node-label-requires c = (search rules, search node-named, search node-opened)
+pub read_node-requires : goal.read_node-requires
+read_node-requires c = (search rules, search node-named, search node-opened)
 
-pub returns-then-not-is_new : goal.returns-then-not-is_new
-returns-then-not-is_new c = search node-stops
+pub returns-in_err-label : goal.returns-in_err-label
+returns-in_err-label c =
+    rw c.from_residual.ensures (node-stops _ c.loop-seen.invariant.1 c.opens_node.ensures c.loop-seen-test.true c.in_err-label.ensures)
+
+pub returns-then-meet-ne0 : goal.returns-then-meet-ne0
+returns-then-meet-ne0 c = search (node-again, c.in_ok-label.ensures)
 
 pub overflow_cast-k : goal.overflow_cast-k
 overflow_cast-k c = search node-byte
 
-pub loop-label-smaller : goal.loop-label-smaller
-loop-label-smaller c = search node-less
+pub loop-seen-smaller : goal.loop-seen-smaller
+loop-seen-smaller c = search node-less
 
-pub loop-label-preserved : goal.loop-label-preserved
-loop-label-preserved c = (search rules, search node-next)
+pub loop-seen-preserved : goal.loop-seen-preserved
+loop-seen-preserved c = (search rules, search (node-next, c.in_ok-label.ensures))
 
 pub returns : goal.returns
 returns c = search nodes-end

@@ -3,8 +3,8 @@ use lib.ListN.{length}
 use Rattle.picture.proofs.EdgeLoop.{RowUpto}
 use Rattle.picture.proofs.matching.read_row.Given as goal
 
-abbrev pub invariant-loop-k : goal.invariant-loop-k
-invariant-loop-k l = RowUpto l.text l.at l.a l.count l.targets l.end
+abbrev pub invariant-loop-at : goal.invariant-loop-at
+invariant-loop-at l = RowUpto l.text l.at l.a l.count l.targets l.end
 
-abbrev pub decreases-loop-k : goal.decreases-loop-k
-decreases-loop-k l = length l.text - l.end
+abbrev pub decreases-loop-at : goal.decreases-loop-at
+decreases-loop-at l = length l.text - l.end

@@ -1,49 +1,51 @@
-use Prim.Native.Nat.{◌<◌}
 use mathlib.Core.Path.{sym, ◌∙◌}
 use native.Mathlib.Omega.{arith}
 use borrow.Author.Rules.{rules}
-use borrow.Author.Tests.{not-false}
-use Rattle.picture.proofs.Candidates.{text-found, first-refused, first-long, nodes-refused, nodes-inside}
-use Rattle.picture.proofs.Candidates.{machines-refused, edges-refused, edges-inside, end_refused}
+use Rattle.picture.proofs.Candidates.{text-found, first-refused, first-long, nodes-refused, nodes-inside, nodes-some}
+use Rattle.picture.proofs.Candidates.{gaps-refused, machines-refused, edges-refused, edges-inside, end_refused}
 use Rattle.picture.proofs.matching.read_text.Goals as goal
 
 pub returns-then-not-stands : goal.returns-then-not-stands
 returns-then-not-stands c = search first-refused
 
-pub read_nodes-nodes-requires : goal.read_nodes-nodes-requires
-read_nodes-nodes-requires c = (search first-long, search rules)
+pub read_nodes-requires : goal.read_nodes-requires
+read_nodes-requires c = (search first-long, search rules)
 
-pub returns-then-nodes-eq0 : goal.returns-then-nodes-eq0
-returns-then-nodes-eq0 c = search nodes-refused
+pub returns-in_err-nodes : goal.returns-in_err-nodes
+returns-in_err-nodes c = rw c.from_residual.ensures (nodes-refused c.in_err-nodes.ensures)
+
+pub returns-in_err-machines : goal.returns-in_err-machines
+returns-in_err-machines c =
+    rw c.from_residual-in_err-machines.ensures (gaps-refused c.in_ok-nodes.ensures c.in_err-machines.ensures)
 
 pub returns-then-machines-nodes : goal.returns-then-machines-nodes
-returns-then-machines-nodes c = search machines-refused
+returns-then-machines-nodes c = machines-refused c.in_ok-nodes.ensures c.in_ok-machines.ensures c.if-machines-nodes.true
 
-pub read_edges-edges-requires : goal.read_edges-edges-requires
-read_edges-edges-requires c = (search nodes-inside, search rules, search rules)
+pub read_edges-requires : goal.read_edges-requires
+read_edges-requires c = let nodes = c.in_ok-nodes.ensures in
+    (nodes-inside nodes, nodes.count, omega (arith, nodes.count, c.requires.1))
 
-pub returns-then-not-edges : goal.returns-then-not-edges
-returns-then-not-edges c = search edges-refused
+pub returns-in_err-end : goal.returns-in_err-end
+returns-in_err-end c =
+    rw c.from_residual-in_err-end.ensures (edges-refused c.in_ok-nodes.ensures c.in_err-end.ensures)
 
 pub ends-requires : goal.ends-requires
-ends-requires c = search edges-inside
+ends-requires c = search (edges-inside, c.in_ok-nodes.ensures, c.in_ok-end.ensures)
 
 pub returns-then-not-ends : goal.returns-then-not-ends
-returns-then-not-ends c = search end_refused
+returns-then-not-ends c = search (end_refused, c.in_ok-nodes.ensures, c.in_ok-end.ensures)
 
 pub returns : goal.returns
-returns c = let nodes = c.read_nodes-nodes in
-    let edges = c.read_edges-edges in
-    let some : 0 < nodes.result.count = let z = c.if-nodes-eq0.false in omega arith in
-    let more = c.if-machines-nodes.false in
+returns c = let nodes = c.in_ok-nodes.ensures in
+    let gapless = c.in_ok-machines.ensures in
     text-found (record {
-      numbers-size = nodes.auto.numbers ∙ c.requires.0;
-      targets-size = edges.auto.targets ∙ c.requires.1;
-      bits = c.machine_count-machines.ensures.bits (omega arith);
-      some = some;
-      no_more = more;
+      numbers-size = c.read_nodes.auto.numbers ∙ c.requires.0;
+      targets-size = c.read_edges.auto.targets ∙ c.requires.1;
+      bits = gapless.bits;
+      some = nodes-some nodes gapless;
+      no_more = c.if-machines-nodes.false;
       first = sym c.stands.ensures ∙ c.if-not-stands.false;
-      nodes = nodes.ensures.stand some;
-      edges = edges.ensures.stand (not-false _ c.if-not-edges.false);
+      nodes = nodes.stand;
+      edges = c.in_ok-end.ensures.stand;
       ends = sym c.ends.ensures ∙ c.if-not-ends.false;
     })

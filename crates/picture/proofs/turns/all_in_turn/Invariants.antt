@@ -4,6 +4,3 @@ use Rattle.picture.proofs.turns.all_in_turn.Given as goal
 abbrev pub invariant-loop-k : goal.invariant-loop-k
 invariant-loop-k l =
     TurnSets l.numbers l.targets l.k l.waiting l.later l.held
-
-abbrev pub decreases-loop-k : goal.decreases-loop-k
-decreases-loop-k l = l.k

@@ -1,6 +1,18 @@
+use borrow.Author.Rules.{rules}
 use Rattle.plan.specs.Needs.{need_graph}
+use Rattle.plan.specs.Kept.MachineSets.{ReachSets, MutualSets, OutsideSets}
 use Rattle.plan.proofs.SheetGroups.{groups-kept, groups-taken}
 use Rattle.plan.proofs.grouping.by_needs.Goals as goal
+use Rattle.plan.proofs.grouping.by_needs.Goals.{After-number}
+
+reached : (c : After-number) → ReachSets c.args.next.now c.args.n c.each_of-reach.result
+reached c = record { each = λ i h. let e = c.each_of-reach.ensures i h in search rules }
+
+both : (c : After-number) → MutualSets c.each_of-reach.result c.args.n c.each_of-groups.result
+both c = record { each = λ i h. let e = c.each_of-groups.ensures i h in search rules }
+
+needs : (c : After-number) → OutsideSets c.args.next.now c.each_of-groups.result c.args.n c.each_of-waits.result
+needs c = record { each = λ i h. let e = c.each_of-waits.ensures i h in search rules }
 
 pub returns : goal.returns
-returns c m k same = groups-taken m same _ (c.number.ensures (need_graph m) (search groups-kept))
+returns c m k same = groups-taken m same _ (c.number.ensures (need_graph m) (groups-kept m same k (reached c) (both c) (needs c)))

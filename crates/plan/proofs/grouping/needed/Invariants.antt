@@ -1,5 +1,3 @@
-use Prim.Native.Nat.{◌-◌}
-use lib.ListN.{length}
 use Rattle.sheet.specs.Model.{Model}
 use Rattle.sheet.specs.Valid.{Valid}
 use Rattle.sheet.specs.Kept.Indexed.{Listed}
@@ -7,7 +5,4 @@ use Rattle.plan.proofs.NeedSets.{NeedsRead}
 use Rattle.plan.proofs.grouping.needed.Given as goal
 
 abbrev pub invariant-loop-v : goal.invariant-loop-v
-invariant-loop-v l = (m : Model) → Listed m l.s l.places → Valid m → NeedsRead m l.v l.next
-
-abbrev pub decreases-loop-v : goal.decreases-loop-v
-decreases-loop-v l = length l.places - l.v
+invariant-loop-v l = (m : Model) → Listed m l.moves.file.now l.moves.places.now → Valid m → NeedsRead m l.v l.next

@@ -1,4 +1,3 @@
-use Prim.Native.Nat.{◌-◌, ◌≤◌}
 use mathlib.Core.Path.{◌≡◌}
 use lib.ListN.{length}
 use Rattle.common.specs.Graph.{Graph}
@@ -8,7 +7,4 @@ use Rattle.plan.proofs.grouping.number.Given as goal
 
 abbrev pub invariant-loop-k : goal.invariant-loop-k
 invariant-loop-k l =
-    (l.k ≤ l.n) × (length l.numbers ≡ 64) × ((g : Graph) → Grouped g l.n l.groups l.outside → Marks g l.k l.numbers l.numbered)
-
-abbrev pub decreases-loop-k : goal.decreases-loop-k
-decreases-loop-k l = l.n - l.k
+    (length l.numbers ≡ 64) × ((g : Graph) → Grouped g l.n l.groups l.outside → Marks g l.k l.numbers l.numbered)

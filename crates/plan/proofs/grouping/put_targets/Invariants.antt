@@ -1,9 +1,5 @@
-use Prim.Native.Nat.{◌-◌}
 use Rattle.plan.proofs.TargetLoops.{TargetsUpto}
 use Rattle.plan.proofs.grouping.put_targets.Given as goal
 
 abbrev pub invariant-loop-i : goal.invariant-loop-i
 invariant-loop-i l = TargetsUpto l.next l.numbers l.n l.i l.targets
-
-abbrev pub decreases-loop-i : goal.decreases-loop-i
-decreases-loop-i l = l.n - l.i

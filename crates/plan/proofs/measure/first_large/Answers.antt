@@ -1,17 +1,17 @@
-use borrow.Author.Count.{below_none, below_more}
-use Rattle.plan.proofs.GroupLoops.{large-found, large-missing}
-use borrow.Author.Rules.{rules}
+use mathlib.Core.Path.{◌≡◌}
+use lib.Dec.{ltb}
+use lib.ListN.{take}
+use Rattle.std.proofs.Common.{rules, tests}
+use Rattle.std.proofs.lemmas.Iterator.{YieldsList-from_slice}
+use Rattle.std.proofs.lemmas.Iterator.Search.{position_from_yields_List}
+use Rattle.std.specs.List.{position}
+use Rattle.plan.proofs.GroupLoops.{large-position}
 use Rattle.plan.proofs.measure.first_large.Goals as goal
 
-pub loop-k-init : goal.loop-k-init
-loop-k-init c = (search rules, below_none _)
-
-pub returns-then-sizes-k-gt-MODES : goal.returns-then-sizes-k-gt-MODES
-returns-then-sizes-k-gt-MODES c = let before = c.loop-k.invariant.1 in
-    large-found _ _ _ c.loop-k-test.true c.if-sizes-k-gt-MODES.true before
-
-pub loop-k-preserved : goal.loop-k-preserved
-loop-k-preserved c = (search rules, below_more _ _ c.loop-k.invariant.1 c.if-sizes-k-gt-MODES.false)
-
 pub returns : goal.returns
-returns c = large-missing _ _ _ c.loop-k-test.false c.loop-k.invariant.1
+returns c =
+    let firsts = take c.args.count c.args.sizes.now in
+    let e : c.position.result ≡ position (ltb 64) firsts
+    = position_from_yields_List _ _ _ _ c.position.ensures.ran (YieldsList-from_slice firsts cc) (λ x b q k. search (rules, tests)) in
+    let r = large-position c.args.sizes.now c.args.count (search rules) e in
+    record { first = r.0; inside = r.1 }

@@ -1,22 +1,23 @@
 use Prim.Native.Nat.{◌≤◌}
 use mathlib.Core.Path.{◌∙◌}
+use native.Mathlib.Nat.{le_refl}
 use native.Mathlib.Omega.{arith}
 use Rattle.plan.proofs.GroupLoops.{few-groups}
 use Rattle.plan.proofs.LengthLaws.{length-large, length-many, length-fits}
 use Rattle.plan.proofs.measure.length_of.Goals as goal
 
-pub first_large-large-requires : goal.first_large-large-requires
-first_large-large-requires c = let f : c.count-groups.result ≤ 32 = search few-groups in
+pub first_large-requires : goal.first_large-requires
+first_large-requires c = let f : c.count-groups.result ≤ 32 = search few-groups in
     omega (arith, c.sizes-n.type_inv)
 
 pub overflow_cast-large : goal.overflow_cast-large
 overflow_cast-large c = let f : c.count-groups.result ≤ 32 = search few-groups in omega arith
 
-pub returns-then-large-groups : goal.returns-then-large-groups
-returns-then-large-groups c = λ m all counts.
+pub returns-in-Some : goal.returns-in-Some
+returns-in-Some c = λ m all counts.
     let are = c.sizes-n.ensures m counts in
-    let at = c.wide.ensures.0 ∙ c.smallest-m.ensures in
-    search (length-large m, few-groups)
+    let at = c.from.ensures ∙ c.smallest-m.ensures in
+    rw c.at.ensures (search (length-large m, few-groups, c.in-Some.ensures))
 
 pub entries-cells-requires : goal.entries-cells-requires
 entries-cells-requires c = let f : c.count-groups.result ≤ 32 = search few-groups in
@@ -25,7 +26,7 @@ entries-cells-requires c = let f : c.count-groups.result ≤ 32 = search few-gro
 pub returns-then-cells-gt-ENTRIES : goal.returns-then-cells-gt-ENTRIES
 returns-then-cells-gt-ENTRIES c = λ m all counts.
     let are = c.sizes-n.ensures m counts in
-    search (length-many m, few-groups)
+    rw c.at-then-cells-gt-ENTRIES.ensures (search (length-many m, few-groups, c.in_default.ensures, le_refl))
 
 pub overflow_mul-result : goal.overflow_mul-result
 overflow_mul-result c = let f : c.count-groups.result ≤ 32 = search few-groups in
@@ -42,4 +43,4 @@ overflow_add-result-3 c = let f : c.count-groups.result ≤ 32 = search few-grou
 pub returns : goal.returns
 returns c = λ m all counts.
     let are = c.sizes-n.ensures m counts in
-    search (length-fits m, few-groups)
+    search (length-fits m, few-groups, c.in_default.ensures, le_refl)

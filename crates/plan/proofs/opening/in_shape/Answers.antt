@@ -1,6 +1,7 @@
 use mathlib.Core.Path.{sym}
 use native.Mathlib.Omega.{arith}
 use borrow.Author.Rules.{rules}
+use Rattle.plan.proofs.GroupLoops.{large-there, large-nowhere}
 use Rattle.plan.proofs.PlanShape.{large-wrong, needs-wrong, shape-judged}
 use Rattle.plan.proofs.opening.in_shape.Goals as goal
 
@@ -16,19 +17,21 @@ slice_bounds-records_fit-end c = search rules
 pub first_large-requires : goal.first_large-requires
 first_large-requires c = omega (arith, slice_bounds-first_large-end c)
 
-pub returns-then-first_large-count : goal.returns-then-first_large-count
-returns-then-first_large-count c = λ m valid fit o. sym (large-wrong valid fit o c.first_large.ensures c.if-first_large-count.true)
+pub returns-then-is_some : goal.returns-then-is_some
+returns-then-is_some c = λ m valid fit o.
+    let found = c.first_large.ensures in
+    sym (large-wrong valid fit o found.first (large-there _ found.inside c.if-is_some.ensures))
 
 pub needs_come_first-requires : goal.needs_come_first-requires
 needs_come_first-requires c = omega (arith, slice_bounds-needs_come_first-end c)
 
 pub returns-then-not-needs_come_first : goal.returns-then-not-needs_come_first
-returns-then-not-needs_come_first c = λ m valid fit o. sym (needs-wrong valid fit o c.needs_come_first.ensures c.if-not-needs_come_first.true-raw)
+returns-then-not-needs_come_first c = λ m valid fit o. sym (needs-wrong valid fit o c.needs_come_first.ensures c.if-not-needs_come_first.true)
 
 pub records_fit-requires : goal.records_fit-requires
 records_fit-requires c = omega (arith, slice_bounds-records_fit-end c)
 
 pub returns : goal.returns
 returns c = λ m valid fit o.
-    shape-judged valid fit o c.needs_come_first.ensures c.first_large.ensures
-    c.if-first_large-count.false c.if-not-needs_come_first.false-raw c.records_fit.ensures
+    shape-judged valid fit o c.needs_come_first.ensures c.first_large.ensures.first
+    (large-nowhere _ c.if-is_some.ensures) c.if-not-needs_come_first.false c.records_fit.ensures

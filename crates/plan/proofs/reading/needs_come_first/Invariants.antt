@@ -1,4 +1,3 @@
-use Prim.Native.Nat.{◌-◌}
 use lib.ListN.{get_or}
 use lib.Dec.{eqb}
 use Rattle.common.proofs.Tested.{Passed}
@@ -7,6 +6,3 @@ use Rattle.plan.proofs.reading.needs_come_first.Given as goal
 
 abbrev pub invariant-loop-k : goal.invariant-loop-k
 invariant-loop-k l = Passed (λ j. eqb (lowered (get_or l.named j 0) j) 0) l.count l.k
-
-abbrev pub decreases-loop-k : goal.decreases-loop-k
-decreases-loop-k l = l.count - l.k

@@ -1,9 +1,5 @@
-use Prim.Native.Nat.{◌-◌}
 use Rattle.plan.proofs.TableStarts.{StartsUpto}
 use Rattle.plan.proofs.reading.starts.Given as goal
 
 abbrev pub invariant-loop-k : goal.invariant-loop-k
-invariant-loop-k l = StartsUpto l.sizes l.n l.count l.at l.k l.r
-
-abbrev pub decreases-loop-k : goal.decreases-loop-k
-decreases-loop-k l = l.count - l.k
+invariant-loop-k l = StartsUpto l.sizes l.n l.at l.k l.r

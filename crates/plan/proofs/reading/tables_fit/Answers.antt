@@ -1,5 +1,4 @@
 use mathlib.Core.Path.{sym, ◌∙◌}
-use native.Mathlib.Omega.{arith}
 use Rattle.common.proofs.Tested.{passed_none, passed-next, passed-all, one-fails}
 use Rattle.plan.specs.Kept.Outline.{tables_fit}
 use Rattle.plan.proofs.reading.tables_fit.Goals as goal
@@ -7,18 +6,15 @@ use Rattle.plan.proofs.reading.tables_fit.Goals as goal
 pub loop-k-init : goal.loop-k-init
 loop-k-init c = passed_none _ _
 
-pub overflow_cast-starts : goal.overflow_cast-starts
-overflow_cast-starts c = omega (arith, c.shared_slice_known-in-loop-k-1.given c.loop-k.k)
-
 pub returns-then-not-has_record : goal.returns-then-not-has_record
 unfolding tables_fit
 returns-then-not-has_record c = one-fails _ _ c.loop-k-test.true
-    (rw (← c.table_length.ensures.0)
+    (rw (← c.table_length-len.ensures.0)
     (sym c.has_record.ensures ∙ c.if-not-has_record.true))
 
 pub loop-k-preserved : goal.loop-k-preserved
 loop-k-preserved c = passed-next _ _ c.loop-k.invariant c.loop-k-test.true
-    (rw (← c.table_length.ensures.0)
+    (rw (← c.table_length-len.ensures.0)
     (sym c.has_record.ensures ∙ c.if-not-has_record.false))
 
 pub returns : goal.returns

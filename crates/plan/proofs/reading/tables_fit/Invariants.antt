@@ -1,4 +1,3 @@
-use Prim.Native.Nat.{◌-◌}
 use lib.ListN.{get_or}
 use Rattle.common.proofs.Tested.{Passed}
 use Rattle.plan.specs.Reading.{has_record}
@@ -8,6 +7,3 @@ use Rattle.plan.proofs.reading.tables_fit.Given as goal
 abbrev pub invariant-loop-k : goal.invariant-loop-k
 invariant-loop-k l =
     Passed (λ j. has_record l.plan (get_or l.starts j 0) 17 (table_bytes (get_or l.sizes j 0))) l.count l.k
-
-abbrev pub decreases-loop-k : goal.decreases-loop-k
-decreases-loop-k l = l.count - l.k

@@ -1,4 +1,3 @@
-use Prim.Native.Nat.{◌≤◌, ◌-◌}
 use mathlib.Core.Bool.{false}
 use mathlib.Core.Path.{◌≡◌}
 use Rattle.common.specs.Lists.{any, up_to}
@@ -7,7 +6,4 @@ use Rattle.sheet.specs.Model.{move_of}
 use Rattle.sheet.proofs.judge.bad_guards.Given as goal
 
 abbrev pub invariant-loop-n : goal.invariant-loop-n
-invariant-loop-n l = (l.n ≤ l.count) × (any (wrong_guard l.tops (move_of l.body)) (up_to l.n) ≡ false)
-
-abbrev pub decreases-loop-n : goal.decreases-loop-n
-decreases-loop-n l = l.count - l.n
+invariant-loop-n l = any (wrong_guard l.tops (move_of l.body)) (up_to l.n) ≡ false

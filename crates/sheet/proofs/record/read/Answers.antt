@@ -1,3 +1,4 @@
+use mathlib.Core.Path.{◌∙◌}
 use Rattle.sheet.proofs.Records.{no_header, header-past, body-cut, body-in}
 use Rattle.sheet.proofs.record.read.Goals as goal
 
@@ -8,7 +9,7 @@ pub returns-then-last-at : goal.returns-then-last-at
 returns-then-last-at c = search header-past
 
 pub returns-then-last-at-2 : goal.returns-then-last-at-2
-returns-then-last-at-2 c = search body-cut
+returns-then-last-at-2 c = let n = c.from-len.ensures ∙ c.two_bytes.ensures in search (body-cut, n)
 
 pub returns : goal.returns
-returns c = search body-in
+returns c = let n = c.from-len.ensures ∙ c.two_bytes.ensures in search (body-in, n)

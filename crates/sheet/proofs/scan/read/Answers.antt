@@ -1,19 +1,27 @@
-use mathlib.Core.Path.{sym}
+use mathlib.Core.Path.{ap, ◌∙◌}
+use mathlib.Core.Bool.{not}
 use native.Mathlib.Omega.{arith}
 use borrow.Author.Rules.{rules}
+use Rattle.sheet.specs.Refusal.{refusal}
+use Rattle.sheet.specs.Index.{reading_of}
+use Rattle.sheet.specs.declared.kind.Kind.TheVariants.{Machine, Move}
+use Rattle.sheet.proofs.Numbered.{kind-other, kind-unknown}
+use Rattle.sheet.proofs.Passing.{passed-on}
 use Rattle.sheet.proofs.Records.{whole-within}
-use Rattle.sheet.proofs.Scanning.{scan-start, lives-long, tops-long, scan-cut, reading-refused}
-use Rattle.sheet.proofs.ScanTurns.{machine-first, machine-second, machine-room, machine-below, machine-few}
-use Rattle.sheet.proofs.ScanTurns.{machine-less, move-bytes, move-room, move-less, place-fits}
+use Rattle.sheet.proofs.Scanning.{scan-start, scan-cut, reading-refused}
+use Rattle.sheet.proofs.ScanTurns.{machine-second, machine-room, machine-few}
+use Rattle.sheet.proofs.ScanTurns.{move-bytes, move-room}
 use Rattle.sheet.proofs.ScanTurns.{machine-faulty, scan-machine, move-faulty, scan-repeated, scan-move}
-use Rattle.sheet.proofs.ScanTurns.{end-faulty, scan_trailing, scan-given, scan-index, scan-tail}
+use Rattle.sheet.proofs.ScanTurns.{end-faulty, scan_trailing, scan-given, scan-tail}
 use Rattle.sheet.proofs.scan.read.Goals as goal
+use Rattle.sheet.proofs.scan.read.Goals.{in_default-try_from-via-in-Ok+in_default, in_default-try_from-via-in_default}
 
 pub loop-kind-init : goal.loop-kind-init
 loop-kind-init c = search scan-start
 
 pub returns-in_default : goal.returns-in_default
-returns-in_default c = let r = reading-refused _ c.refused.result c.refused.ensures (search scan-cut) in record { reply = r.0; index = r.1 }
+returns-in_default c = reading-refused _ c.at.result c.at.ensures
+    (search scan-cut)
 
 pub slice_bounds-body-end : goal.slice_bounds-body-end
 slice_bounds-body-end c = search whole-within
@@ -21,107 +29,80 @@ slice_bounds-body-end c = search whole-within
 pub overflow_add-end : goal.overflow_add-end
 overflow_add-end c = omega (arith, slice_bounds-body-end c)
 
-pub returns-in-Faulty : goal.returns-in-Faulty
-returns-in-Faulty c = let r = reading-refused _ c.refused-in-Faulty.result c.refused-in-Faulty.ensures (search machine-faulty) in record { reply = r.0; index = r.1 }
+pub loop-kind-preserved-in-Machine-1 : goal.loop-kind-preserved-in-Machine-1
+loop-kind-preserved-in-Machine-1 c = scan-machine c.loop-kind.invariant c.record_at.ensures c.in-Some.is
+    c.try_from.ensures c.in-Ok-Machine.is c.in-Ok-Machine.field-0-is _ c.judge_machine.ensures c.in_ok-placed-in-Ok-Machine.ensures.passed c.add.ensures
 
-pub bounds-body-0 : goal.bounds-body-0
-bounds-body-0 c = search machine-first
+pub add-requires : goal.add-requires
+add-requires c = (
+  search (machine-second, c.in_ok-placed-in-Ok-Machine.ensures),
+  search (machine-few, c.in_ok-placed-in-Ok-Machine.ensures),
+  machine-room c.loop-kind.invariant c.record_at.ensures c.in-Some.is c.try_from.ensures c.in-Ok-Machine.is c.in-Ok-Machine.field-0-is _ c.judge_machine.ensures
+      c.in_ok-placed-in-Ok-Machine.ensures.passed,
+)
 
-pub bounds-sheet-machines : goal.bounds-sheet-machines
-bounds-sheet-machines c = search machine-room
+pub add-requires-in-Ok-Move : goal.add-requires-in-Ok-Move
+add-requires-in-Ok-Move c = (
+  search rules,
+  search (move-bytes, c.in_ok-placed-in-Ok-Move.ensures),
+  move-room c.loop-kind.invariant c.record_at.ensures c.in-Some.is c.try_from.ensures c.in-Ok-Move.is c.in-Ok-Move.field-0-is _ c.judge_move.ensures
+      c.in_ok-placed-in-Ok-Move.ensures.passed,
+)
 
-pub bounds-body-1 : goal.bounds-body-1
-bounds-body-1 c = search machine-second
+pub returns-then-not-add : goal.returns-then-not-add
+returns-then-not-add c = reading-refused _ c.at-then-not-add.result c.at-then-not-add.ensures
+    (scan-repeated c.loop-kind.invariant c.record_at.ensures c.in-Some.is
+    c.try_from.ensures c.in-Ok-Move.is c.in-Ok-Move.field-0-is _ c.judge_move.ensures c.in_ok-placed-in-Ok-Move.ensures.passed c.add-in-Ok-Move.ensures
+    (ap not c.if-not-add.true))
 
-pub bounds-lives-machines : goal.bounds-lives-machines
-bounds-lives-machines c = search machine-room
-
-pub overflow_add-sheet : goal.overflow_add-sheet
-overflow_add-sheet c = omega (arith, bounds-lives-machines c)
-
-pub bounds-body-0-in-1 : goal.bounds-body-0-in-1
-bounds-body-0-in-1 c = search machine-first
-
-pub first_modes-requires : goal.first_modes-requires
-first_modes-requires c = search machine-few
-
-pub bounds-tops-machines : goal.bounds-tops-machines
-bounds-tops-machines c = search machine-below
-
-pub loop-kind-smaller-in-1 : goal.loop-kind-smaller-in-1
-loop-kind-smaller-in-1 c = search machine-less
-
-pub loop-kind-preserved-in-1 : goal.loop-kind-preserved-in-1
-loop-kind-preserved-in-1 c = search scan-machine
-
-pub slice_bounds-judge_move-end : goal.slice_bounds-judge_move-end
-slice_bounds-judge_move-end c = search tops-long
-
-pub slice_bounds-judge_move-end-in-2 : goal.slice_bounds-judge_move-end-in-2
-slice_bounds-judge_move-end-in-2 c = search lives-long
-
-pub returns-in-Faulty-j : goal.returns-in-Faulty-j
-returns-in-Faulty-j c = let r = reading-refused _ c.refused-in-Faulty-j.result c.refused-in-Faulty-j.ensures (search move-faulty) in record { reply = r.0; index = r.1 }
-
-pub slice_bounds-added-end : goal.slice_bounds-added-end
-slice_bounds-added-end c = search sym
-
-pub slice_bounds-added-end-in-2 : goal.slice_bounds-added-end-in-2
-slice_bounds-added-end-in-2 c = search sym
-
-pub slice_bounds-added-end-in-2-2 : goal.slice_bounds-added-end-in-2-2
-slice_bounds-added-end-in-2-2 c = search sym
-
-pub added-requires : goal.added-requires
-added-requires c = (search rules, search move-bytes, search move-room)
-
-pub returns-then-not-added : goal.returns-then-not-added
-returns-then-not-added c = let r = reading-refused _ c.refused-then-not-added.result c.refused-then-not-added.ensures
-    (scan-repeated c.loop-kind.invariant c.record_at.ensures c.in-Whole.is
-    c.in-2.is _ c.judge_move-j.ensures c.in_default-j-2.is c.added.ensures
-    c.if-not-added.true-raw) in record { reply = r.0; index = r.1 }
-
-pub overflow_cast-sheet : goal.overflow_cast-sheet
-overflow_cast-sheet c = search place-fits
-
-pub bounds-sheet-moves : goal.bounds-sheet-moves
-bounds-sheet-moves c = search move-room
-
-pub offset_bounds-sheet-moves : goal.offset_bounds-sheet-moves
-offset_bounds-sheet-moves c = omega (arith, bounds-sheet-moves c)
-
-pub overflow_add-sheet-in-2 : goal.overflow_add-sheet-in-2
-overflow_add-sheet-in-2 c = omega (arith, bounds-sheet-moves c)
-
-pub loop-kind-smaller : goal.loop-kind-smaller
-loop-kind-smaller c = search move-less
+pub bounds-machines-moves : goal.bounds-machines-moves
+bounds-machines-moves c =
+    move-room c.loop-kind.invariant c.record_at.ensures c.in-Some.is c.try_from.ensures c.in-Ok-Move.is c.in-Ok-Move.field-0-is _ c.judge_move.ensures
+    c.in_ok-placed-in-Ok-Move.ensures.passed
 
 pub loop-kind-preserved : goal.loop-kind-preserved
-loop-kind-preserved c = search scan-move
+loop-kind-preserved c =
+    scan-move c.loop-kind.invariant c.record_at.ensures c.in-Some.is c.try_from.ensures c.in-Ok-Move.is c.in-Ok-Move.field-0-is _ c.judge_move.ensures
+    c.in_ok-placed-in-Ok-Move.ensures.passed
+    c.add-in-Ok-Move.ensures (ap not c.if-not-add.false)
 
-pub returns-in-Faulty-j-2 : goal.returns-in-Faulty-j-2
-returns-in-Faulty-j-2 c = let r = reading-refused _ c.refused-in-Faulty-j-2.result c.refused-in-Faulty-j-2.ensures (search end-faulty) in record { reply = r.0; index = r.1 }
-
-pub returns-then-end-s : goal.returns-then-end-s
-returns-then-end-s c = let r = reading-refused _ c.refused-then-end-s.result c.refused-then-end-s.ensures (search scan_trailing) in record { reply = r.0; index = r.1 }
-
-pub returns-in-3 : goal.returns-in-3
-returns-in-3 c = record {
-  reply = search scan-given;
-  index = search scan-index;
-}
-
-pub slice_bounds-read_tail-end : goal.slice_bounds-read_tail-end
-slice_bounds-read_tail-end c = search tops-long
-
-pub slice_bounds-read_tail-end-in_default-kind : goal.slice_bounds-read_tail-end-in_default-kind
-slice_bounds-read_tail-end-in_default-kind c = search sym
-
-pub slice_bounds-read_tail-end-in_default-kind-2 : goal.slice_bounds-read_tail-end-in_default-kind-2
-slice_bounds-read_tail-end-in_default-kind-2 c = search sym
-
-pub slice_bounds-read_tail-end-in_default-kind-3 : goal.slice_bounds-read_tail-end-in_default-kind-3
-slice_bounds-read_tail-end-in_default-kind-3 c = search sym
+pub returns-in-Ok-End : goal.returns-in-Ok-End
+returns-in-Ok-End c = search (scan-given, c.in_ok-placed-in-Ok-End.ensures, c.in_ok-nothing_behind-in-Ok-End.ensures)
 
 pub read_tail-requires : goal.read_tail-requires
-read_tail-requires c = search scan-tail
+read_tail-requires c =
+    let named = c.try_from.ensures in
+    elim c.in_default-try_from.branch [
+      | in_default-try_from-via-in-Ok+in_default x ↦
+          let y = x.in_default-try_from in
+          scan-tail c.loop-kind.invariant c.record_at.ensures c.in-Some.is
+          (kind-other named {other = Machine} y.is (search rules)) (kind-other named {other = Move} y.is (search rules))
+      | in_default-try_from-via-in_default x ↦
+          let y = x.in_default-try_from in
+          scan-tail c.loop-kind.invariant c.record_at.ensures c.in-Some.is (kind-unknown named y.is Machine) (kind-unknown named y.is Move)
+    ]
+
+pub returns-in_err-placed-in-Ok-Machine : goal.returns-in_err-placed-in-Ok-Machine
+returns-in_err-placed-in-Ok-Machine c = let z = c.in_err-placed-in-Ok-Machine.ensures.refused in
+    ap reading_of (passed-on c.from_residual.ensures.1)
+    ∙ reading-refused _ _ (ap (refusal _) z.1)
+    (machine-faulty c.loop-kind.invariant c.record_at.ensures c.in-Some.is
+    c.try_from.ensures c.in-Ok-Machine.is c.in-Ok-Machine.field-0-is _ c.judge_machine.ensures z.0)
+
+pub returns-in_err-placed-in-Ok-Move : goal.returns-in_err-placed-in-Ok-Move
+returns-in_err-placed-in-Ok-Move c = let z = c.in_err-placed-in-Ok-Move.ensures.refused in
+    ap reading_of (passed-on c.from_residual-in_err-placed-in-Ok-Move.ensures.1)
+    ∙ reading-refused _ _ (ap (refusal _) z.1)
+    (move-faulty c.loop-kind.invariant c.record_at.ensures c.in-Some.is c.try_from.ensures c.in-Ok-Move.is c.in-Ok-Move.field-0-is _ c.judge_move.ensures z.0)
+
+pub returns-in_err-placed-in-Ok-End : goal.returns-in_err-placed-in-Ok-End
+returns-in_err-placed-in-Ok-End c = let z = c.in_err-placed-in-Ok-End.ensures.refused in
+    ap reading_of (passed-on c.from_residual-in_err-placed-in-Ok-End.ensures.1)
+    ∙ reading-refused _ _ (ap (refusal _) z.1)
+    (end-faulty c.loop-kind.invariant c.record_at.ensures c.in-Some.is c.try_from.ensures c.in-Ok-End.is c.in-Ok-End.field-0-is _ c.judge_end.ensures z.0)
+
+pub returns-in_err-nothing_behind-in-Ok-End : goal.returns-in_err-nothing_behind-in-Ok-End
+returns-in_err-nothing_behind-in-Ok-End c = let z = c.in_err-nothing_behind-in-Ok-End.ensures.refused in
+    ap reading_of (passed-on c.from_residual-in_err-nothing_behind-in-Ok-End.ensures.1)
+    ∙ reading-refused _ _ z.1
+    (search (scan_trailing, c.in_ok-placed-in-Ok-End.ensures))

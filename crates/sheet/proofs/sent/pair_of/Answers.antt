@@ -4,4 +4,4 @@ use Rattle.sheet.proofs.sent.pair_of.Goals as goal
 
 pub returns : goal.returns
 unfolding key_of
-returns c v m f k = omega (arith, c.wide.ensures.0, c.wide-2.ensures.0)
+returns c v m f k = omega (arith, c.from.ensures, c.from-2.ensures)

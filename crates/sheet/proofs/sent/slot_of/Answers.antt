@@ -4,4 +4,4 @@ use Rattle.sheet.proofs.sent.slot_of.Goals as goal
 
 pub returns : goal.returns
 unfolding slot_of
-returns c = rw (c.wide.ensures.0, c.wide-2.ensures.0) (omega arith, omega arith)
+returns c = rw (c.from.ensures, c.from-2.ensures) (omega arith, omega arith)
