@@ -77,9 +77,6 @@ module _ {m : Model} {plan state numbers : List ℕ} (p : Placed m plan state nu
 
 module _ {m : Model} {plan state facts zeros starts : List ℕ} (kept : Kept m plan state facts zeros starts) where
   -- what `numbers` asks
-  pub kept-known : (length facts ≡ 128) × (machines_in state ≤ 32)
-  kept-known = (kept.long, placed-known kept.placed)
-
   -- the numbers of the machines that the state has
   pub kept-placed : {numbers : List ℕ} → numbers ≡ numbers_in facts (machines_in state) → Placed m plan state numbers
   kept-placed e =

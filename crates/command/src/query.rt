@@ -14,7 +14,7 @@ use plan::standing::Digits;
 use sheet::index::{Moves, Sheet};
 use sheet::writing::put_bytes;
 
-// Each machine's group and weight, each group's size and present mode: 32 bytes each.
+// Each machine's group and weight, each group's size and present mode: 32 bytes each. One array, so that one slice lends all of it.
 pub fn gathered(
     numbers: &[u8],
     weights: &[u8],
@@ -48,12 +48,13 @@ pub struct Question<'a> {
     pub facts: &'a [u8],
     // Where each machine stands in mode 0; behind the sets of 32 machines are the live modes of each group.
     pub zeros: &'a [u64],
+    ghost whole: { length facts.now ≡ 128 },
+    ghost few: { machines_in state.now ≤ 32 },
 }
 
 impl<'a> Question<'a> {
     // The groups of the machines that the state is for.
     pub fn numbers(&self) -> &'a [u8]
-        requires { (length self.now.facts.now ≡ 128) × (machines_in self.now.state.now ≤ 32) }
         ensures { result.now ≡ numbers_in self.now.facts.now (machines_in self.now.state.now) }
     {
         let n = machines_in(self.state);
@@ -62,7 +63,6 @@ impl<'a> Question<'a> {
 
     // What a mode of each machine weighs in its group's mode.
     pub fn weights(&self) -> &'a [u8]
-        requires { length self.now.facts.now ≡ 128 }
         ensures { result.now ≡ weights_in self.now.facts.now }
     {
         &self.facts[32..64]
@@ -70,7 +70,6 @@ impl<'a> Question<'a> {
 
     // How many modes each group has.
     pub fn sizes(&self) -> &'a [u8]
-        requires { length self.now.facts.now ≡ 128 }
         ensures { result.now ≡ sizes_in self.now.facts.now }
     {
         &self.facts[64..96]
@@ -78,7 +77,7 @@ impl<'a> Question<'a> {
 
     // How many modes a group has.
     pub fn size_of(&self, group: Group) -> usize
-        requires { (length self.now.facts.now ≡ 128) × (group.0 < 32) }
+        requires { group.0 < 32 }
         ensures { (result ≡ size_in self.now.facts.now group.0) × (result < 256) }
     {
         usize::from(self.facts[64 + usize::from(group.0)])
@@ -86,7 +85,7 @@ impl<'a> Question<'a> {
 
     // The mode that a group is in.
     pub fn mode_now(&self, group: Group) -> usize
-        requires { (length self.now.facts.now ≡ 128) × (group.0 < 32) }
+        requires { group.0 < 32 }
         ensures { (result ≡ present_in self.now.facts.now group.0) × (result < 256) }
     {
         usize::from(self.facts[96 + usize::from(group.0)])
@@ -94,7 +93,6 @@ impl<'a> Question<'a> {
 
     // Its machines, as digits of the modes of their groups.
     pub fn digits(&self) -> Digits<'a>
-        requires { (length self.now.facts.now ≡ 128) × (machines_in self.now.state.now ≤ 32) }
         ensures { (result.numbers.now ≡ numbers_in self.now.facts.now (machines_in self.now.state.now))
             × (result.weights.now ≡ weights_in self.now.facts.now) × (result.zeros.now ≡ self.now.zeros.now) }
     {

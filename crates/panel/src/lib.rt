@@ -1,4 +1,4 @@
-// The C interface: exported functions that put replies into 64 bits. Nothing is decided here.
+// The C interface: exported functions that put replies into 64 bits. Nothing is decided here. They are alike, since C calls each by its name.
 #![tactic(auto)]
 
 pub mod promises;

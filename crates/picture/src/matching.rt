@@ -101,7 +101,7 @@ fn read_label(text: &[u8], at: usize) -> Option<Label>
         return None;
     }
     Some(Label {
-        machines: machines,
+        machines,
         end: end + 4,
     })
 }
@@ -169,7 +169,7 @@ fn read_nodes(text: &[u8], numbers: &mut [u8]) -> Option<Nodes>
         k += 1;
     }
     Some(Nodes {
-        seen: seen,
+        seen,
         count: k,
         end: at,
     })
@@ -192,10 +192,7 @@ fn read_row(text: &[u8], at: usize, a: usize, count: usize) -> Option<Row>
         targets = sets::with(targets, k.value);
         end = k.end + 2;
     }
-    Some(Row {
-        targets: targets,
-        end: end,
-    })
+    Some(Row { targets, end })
 }
 
 // The place behind the edges of all groups, which begin at a place, unless one is wrong. Writes the targets of each group.
@@ -253,7 +250,7 @@ fn read_text(text: &[u8], numbers: &mut [u8], targets: &mut [u64]) -> Option<Cou
         return None;
     }
     Some(Counts {
-        machines: machines,
+        machines,
         groups: nodes.count,
     })
 }
@@ -271,7 +268,7 @@ pub fn matched(text: &[u8]) -> Option<Found>
     Some(Found {
         machines: counts.machines,
         groups: counts.groups,
-        numbers: numbers,
-        targets: targets,
+        numbers,
+        targets,
     })
 }

@@ -31,7 +31,7 @@ fn in_turn(numbers: &[u8], ready: u64, group: Group) -> bool
         return false;
     }
     let first = group_of(numbers, Machine(sets::lowest(ready) as u8));
-    first.0 == group.0
+    first == group
 }
 
 // Each number is in its turn: going down from the last, with the machines of later groups, and those that wait for one.

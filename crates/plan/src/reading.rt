@@ -10,7 +10,7 @@ use sheet::index::{Machine, Sheet};
 use sheet::kind::Kind;
 use sheet::record::{body, word_at};
 
-// An entry of a table: a distance and a first move.
+// An entry of a table: a distance and a first move, 255 and 255 where there is no route, as in the plan's bytes.
 #[derive(Clone, Copy)]
 pub struct Cell {
     pub distance: u8,

@@ -20,7 +20,7 @@ use crate::record::byte_at;
 use crate::refusal::{Cause, Refusal};
 
 // The machines read so far: their index, with the moves read so far, and all modes of each machine as bits; none for a byte that
-// names no machine.
+// names no machine. An entry for every byte, since there is no heap.
 #[derive(Drop)]
 pub struct Machines {
     pub sheet: Sheet,

@@ -9,9 +9,6 @@ use Rattle.decimal.proofs.read.Goals.{else-first-eq0-via-then-first-eq0+else-dig
 pub returns-then-not-digit_at : goal.returns-then-not-digit_at
 returns-then-not-digit_at c = none_read c.args.text.now c.args.at (sym c.digit_at.ensures ∙ c.if-not-digit_at.true)
 
-pub value_at-first-requires : goal.value_at-first-requires
-value_at-first-requires c = sym c.digit_at.ensures ∙ c.if-not-digit_at.false
-
 pub overflow_add-at : goal.overflow_add-at
 overflow_add-at c = let first = sym c.digit_at.ensures ∙ c.if-not-digit_at.false in
     omega (arith, digit-inside c.args.text.now c.args.at first, c.well_formed.0.0)

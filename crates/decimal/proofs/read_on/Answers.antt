@@ -9,15 +9,6 @@ overflow_add-i c = omega (arith, digit-inside c.args.text.now c.args.at c.requir
 pub loop-n-init : goal.loop-n-init
 loop-n-init c = read_first c.requires
 
-pub overflow_mul-n : goal.overflow_mul-n
-overflow_mul-n c = omega (arith, c.loop-n.invariant.small)
-
-pub value_at-requires : goal.value_at-requires
-value_at-requires c = sym c.digit_at.ensures ∙ c.loop-n-test.true
-
-pub overflow_add-n : goal.overflow_add-n
-overflow_add-n c = omega (arith, c.loop-n.invariant.small, c.value_at.ensures.1)
-
 pub returns-then-n-gt65535 : goal.returns-then-n-gt65535
 returns-then-n-gt65535 c = let digit = sym c.digit_at.ensures ∙ c.loop-n-test.true in
     read-over c.loop-n.invariant digit

@@ -1,5 +1,5 @@
 use Rattle.sheet.proofs.Pieces.{put-start}
-use Rattle.clean.proofs.Writing.{machine-room, machine-more, machines-put}
+use Rattle.clean.proofs.Writing.{machine-room, machine-more}
 use Rattle.clean.proofs.cleaning.put_machines.Goals as goal
 
 pub loop-i-init : goal.loop-i-init
@@ -10,6 +10,3 @@ put_record-at-requires c = search machine-room
 
 pub loop-i-preserved : goal.loop-i-preserved
 loop-i-preserved c = search machine-more
-
-pub returns : goal.returns
-returns c = let r = machines-put _ _ _ c.requires.1 c.loop-i.invariant c.loop-i-test.false in record { end = r.0; written = r.1 }

@@ -1,4 +1,4 @@
-use Rattle.sheet.proofs.Pieces.{put-start, put-end}
+use Rattle.sheet.proofs.Pieces.{put-start}
 use Rattle.clean.proofs.Writing.{move-room, move-more}
 use Rattle.clean.proofs.cleaning.put_moves.Goals as goal
 
@@ -10,6 +10,3 @@ put_record-at-requires c = search move-room
 
 pub loop-v-preserved : goal.loop-v-preserved
 loop-v-preserved c = search move-more
-
-pub returns : goal.returns
-returns c = let r = put-end _ _ _ _ c.loop-v.invariant c.loop-v-test.false in record { end = r.0; written = r.1 }

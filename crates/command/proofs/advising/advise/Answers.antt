@@ -7,6 +7,7 @@ use Rattle.command.proofs.Opening.{opened-lent, opened-below, opened-weighed, op
 use Rattle.command.proofs.Opening.{opened-lent-few, opened-count, opened-members, opened-lives}
 use Rattle.command.proofs.Opening.{sizes-long}
 use Rattle.command.proofs.Opening.{opened-placed, opened-goal}
+use Rattle.command.proofs.Placing.{placed-known}
 use Rattle.command.proofs.advising.advise.Goals as goal
 use Rattle.command.proofs.advising.advise.Goals.{Start}
 
@@ -46,6 +47,12 @@ put_lives-requires c = let p = c.requires.0 in (
 pub present-now-requires : goal.present-now-requires
 present-now-requires c = let p = c.requires.0 in
     (p.0, opened-weighed p.2, p.3, opened-below p.2)
+
+pub invariant_of-question : goal.invariant_of-question
+invariant_of-question c = let p = c.requires.0 in record {
+  whole = omega (arith, c.gathered-facts.type_inv);
+  few = placed-known (opened-placed p.2 _ p.3);
+}
 
 pub pursue-requires : goal.pursue-requires
 pursue-requires c = let p = c.requires in (

@@ -2,7 +2,6 @@ use Prim.Native.Nat.{◌^◌, ◌<◌}
 use mathlib.Core.Path.{sym}
 use native.Mathlib.Omega.{arith}
 use Rattle.sheet.proofs.Passing.{passed-on}
-use Rattle.command.proofs.Placing.{kept-known}
 use Rattle.command.proofs.Pursuing.{Sought, pursued-placed, pursued-only, pursued-among, pursued-left}
 use Rattle.command.proofs.Pursuing.{pursued-uncertain, pursued-replies}
 use Rattle.command.proofs.StrandedLoop.{kept-below}
@@ -23,9 +22,6 @@ sought c = record {
   joined = c.join.ensures;
   allowed = c.allowed_sets-wanted.ensures;
 }
-
-pub numbers-requires : goal.numbers-requires
-numbers-requires c = kept-known c.requires.0.2.kept
 
 pub allowed_sets-wanted-requires : goal.allowed_sets-wanted-requires
 allowed_sets-wanted-requires c = let p = c.requires in

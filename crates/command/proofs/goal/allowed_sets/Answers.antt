@@ -1,11 +1,10 @@
 use Rattle.plan.specs.Reading.{groups_in}
 use Rattle.plan.proofs.WithinModes.{group-machines}
 use Rattle.command.proofs.AllowedGroups.{allows-masks, sets-place, sets-size, sets-next, sets_end}
-use borrow.Author.Rules.{rules}
 use Rattle.command.proofs.goal.allowed_sets.Goals as goal
 
 pub size_of-n-requires : goal.size_of-n-requires
-size_of-n-requires c = (search rules, search (sets-place, c.in-Some.ensures))
+size_of-n-requires c = search (sets-place, c.in-Some.ensures)
 
 pub bounds-members-k : goal.bounds-members-k
 bounds-members-k c = rw c.requires.2 (search (sets-place, c.in-Some.ensures))

@@ -1,7 +1,7 @@
 use Prim.Native.Nat.{ℕ}
 use native.Mathlib.Omega.{arith}
 use Rattle.command.proofs.Looked.{kept-group, kept_small, kept-few}
-use Rattle.command.proofs.Placing.{kept-known, kept-held}
+use Rattle.command.proofs.Placing.{kept-held}
 use Rattle.command.proofs.Startable.{Led, led-placed, led-present, led-move, led-valid, led-long, led-some}
 use Rattle.command.proofs.Startable.{led-numbered, led-inside, passed, passed-own}
 use Rattle.command.proofs.Startable.{entry-far, entry_absent, entry-elsewhere, entry-held}
@@ -42,9 +42,6 @@ fulfil-returns-then-cell t c m wish kept l below fits =
       | fulfil-then-cell-via-else-cell+then-len-v w ↦
           entry_absent m wish kept l below fits toward c.from-v.ensures (omega (arith, w.if-len-v.true, w.len.ensures))
     ])
-
-pub fulfil-numbers-own-requires : goal.fulfil-numbers-own-requires
-fulfil-numbers-own-requires t c = search kept-known
 
 pub fulfil-held_up-held-requires : goal.fulfil-held_up-held-requires
 fulfil-held_up-held-requires t c =
@@ -108,9 +105,6 @@ pub prepare-first-modes-requires : goal.prepare-first-modes-requires
 prepare-first-modes-requires t c =
     let (m, kept, l, v, there, same, o) = c.requires.0 in
     kept-few kept (prepare-there _ kept there same o c.highest-k.ensures) c.size_of.ensures.0
-
-pub prepare-digits-requires : goal.prepare-digits-requires
-prepare-digits-requires t c = kept-known c.requires.0.1
 
 pub prepare-meeting-wanted-requires : goal.prepare-meeting-wanted-requires
 prepare-meeting-wanted-requires t c =

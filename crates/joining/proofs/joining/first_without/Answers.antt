@@ -1,14 +1,8 @@
-use Rattle.joining.proofs.WithoutLoop.{left-none, left-next, without-found, without-missing}
+use Rattle.joining.proofs.WithoutLoop.{without-found, without-missing}
 use Rattle.joining.proofs.joining.first_without.Goals as goal
-
-pub loop-i-init : goal.loop-i-init
-loop-i-init c = search left-none
 
 pub returns-then-masks-i-eq0-clause-first : goal.returns-then-masks-i-eq0-clause-first
 returns-then-masks-i-eq0-clause-first c = without-found c.loop-i.invariant c.loop-i-test.true c.if-masks-i-eq0.true
-
-pub loop-i-preserved : goal.loop-i-preserved
-loop-i-preserved c = search left-next
 
 pub returns-clause-first : goal.returns-clause-first
 returns-clause-first c = without-missing c.loop-i.invariant c.loop-i-test.false

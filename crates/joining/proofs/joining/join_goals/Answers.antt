@@ -25,10 +25,6 @@ returns-then-not-whole c = record {
   written = λ m q e. refusal-leaves _ (cut-refused _ c.whole.ensures m _ (c.if-not-whole.true));
 }
 
-pub check_each-requires : goal.check_each-requires
-check_each-requires c = let pre = c.requires in
-    (whole-holds _ c.whole.ensures (c.if-not-whole.false), pre.1, pre.2)
-
 pub write-requires : goal.write-requires
 write-requires c = let pre = c.requires in
     let m = pre.0.0 in

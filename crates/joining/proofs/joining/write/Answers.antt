@@ -46,9 +46,6 @@ slice_bounds-masks-end c = masks-within (held (goal.at.slice_bounds-masks-end c)
 pub slice_bounds-put_bytes-end : goal.slice_bounds-put_bytes-end
 slice_bounds-put_bytes-end c = sym (masks-taken (held (goal.at.slice_bounds-put_bytes-end c).After-shared-masks))
 
-pub put_bytes-requires : goal.put_bytes-requires
-put_bytes-requires c = omega (arith, masks-taken (held (goal.at.put_bytes-requires c).After-shared-masks), c.if-out-n.false)
-
 pub returns : goal.returns
 returns c = let first = c.in_default.ensures.first in
     let none = le_refl _ in

@@ -1,11 +1,8 @@
-use mathlib.Core.Path.{◌≡◌, sym, ap, ◌∙◌}
+use mathlib.Core.Path.{sym, ap, ◌∙◌}
 use Rattle.sheet.specs.Refusal.{verdict_says}
 use Rattle.sheet.proofs.Passing.{passed-on}
-use Rattle.joining.proofs.LentLoops.{passed_none, passed-next, passed-refused, passed-end}
+use Rattle.joining.proofs.LentLoops.{passed-next, passed-refused, passed-end}
 use Rattle.joining.proofs.lent.check_each.Goals as goal
-
-pub loop-goal-init : goal.loop-goal-init
-loop-goal-init c = let e : c.into_iter-goal-iterator.result.rest.now ≡ c.args.goals.now = search in rw e (search passed_none)
 
 pub returns-in_err-check : goal.returns-in_err-check
 returns-in_err-check c m each q e h =

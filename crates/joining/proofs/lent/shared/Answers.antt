@@ -1,9 +1,5 @@
-use mathlib.Core.Path.{◌≡◌}
-use Rattle.joining.proofs.SharedLoop.{shared-none, shared-short, shared-next, shared-end}
+use Rattle.joining.proofs.SharedLoop.{shared-short, shared-next, shared-end}
 use Rattle.joining.proofs.lent.shared.Goals as goal
-
-pub loop-goal-init : goal.loop-goal-init
-loop-goal-init c = let e : c.into_iter-goal-iterator.result.rest.now ≡ c.args.goals.now = search in rw e (search shared-none)
 
 pub narrow-requires : goal.narrow-requires
 narrow-requires c = search (shared-short, c.in-Some.ensures)

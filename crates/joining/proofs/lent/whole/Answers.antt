@@ -1,10 +1,7 @@
 use native.Mathlib.Omega.{arith}
-use Rattle.joining.proofs.LentLoops.{whole-none, whole-next, whole-past, whole-end}
+use Rattle.joining.proofs.LentLoops.{whole-next, whole-past, whole-end}
 use Rattle.joining.proofs.lent.whole.Goals as goal
 use Rattle.joining.proofs.lent.whole.Goals.{else-loop-test, then-loop-test+then-goals-at}
-
-pub loop-init : goal.loop-init
-loop-init c = search whole-none
 
 pub loop-preserved : goal.loop-preserved
 loop-preserved c = search whole-next

@@ -2,13 +2,6 @@ use native.Mathlib.Omega.{arith}
 use Rattle.picture.proofs.RowLengths.{lines-short, edges-add}
 use Rattle.picture.proofs.lengths.edges_length.Goals as goal
 
-pub overflow_mul-result : goal.overflow_mul-result
-overflow_mul-result c = omega (arith, lines-short c.width-line.ensures.short c.size.ensures.short)
-
-pub overflow_add-result : goal.overflow_add-result
-overflow_add-result c = let lines = lines-short c.width-line.ensures.short c.size.ensures.short in
-    omega (arith, lines, c.digits.ensures.short)
-
 pub returns : goal.returns
 returns c = let lines = lines-short c.width-line.ensures.short c.size.ensures.short in record {
   length = edges-add _ c.size.ensures.size c.digits.ensures.digits _ c.width-line.ensures.length;

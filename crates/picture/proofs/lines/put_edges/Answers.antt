@@ -11,8 +11,5 @@ put_edge-end-requires c = search (edges_room, c.in-Some.ensures)
 pub loop-k-preserved : goal.loop-k-preserved
 loop-k-preserved c = search (edges_more, c.in-Some.ensures)
 
-pub shape_of-out : goal.shape_of-out
-shape_of-out c = c.loop-k.invariant.size
-
 pub returns : goal.returns
 returns c = let r = edges-end _ _ _ _ c.loop-k.invariant c.in-None.ensures.steps.0 in record { end = r.0; written = r.1 }

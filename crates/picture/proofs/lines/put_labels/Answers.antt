@@ -11,8 +11,5 @@ put_number-end-requires c = search (labels-room, c.in-Some.ensures)
 pub loop-i-preserved : goal.loop-i-preserved
 loop-i-preserved c = search (labels-more, c.in-Some.ensures)
 
-pub shape_of-out : goal.shape_of-out
-shape_of-out c = c.loop-i.invariant.size
-
 pub returns : goal.returns
 returns c = let r = labels-end _ _ _ _ c.loop-i.invariant c.in-None.ensures.steps.0 in record { end = r.0; written = r.1 }

@@ -1,15 +1,7 @@
-use mathlib.Core.Path.{◌∙◌}
 use native.Mathlib.Omega.{arith}
-use lib.ListN.{length-set}
 use Rattle.decimal.proofs.Putting.{put_byte}
 use Rattle.picture.proofs.Pieces.{number_put}
 use Rattle.picture.proofs.lines.put_number.Goals as goal
-
-pub put-requires : goal.put-requires
-put-requires c = rw length-set (omega (arith, c.requires))
-
-pub shape_of-out : goal.shape_of-out
-shape_of-out c = c.put.auto.out ∙ length-set c.args.out.now _ _
 
 pub returns : goal.returns
 returns c = let r = number_put c.args.out.now _ (omega (arith, c.requires)) _ _

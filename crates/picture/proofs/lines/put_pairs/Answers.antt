@@ -12,8 +12,5 @@ put_pair-end-requires c = let t = c.in-Some.ensures.steps in (search (pairs-room
 pub loop-k-preserved : goal.loop-k-preserved
 loop-k-preserved c = search (pairs-more, c.in-Some.ensures)
 
-pub shape_of-out : goal.shape_of-out
-shape_of-out c = c.loop-k.invariant.size
-
 pub returns : goal.returns
 returns c = let r = pairs_end _ _ _ _ c.loop-k.invariant c.in-None.ensures.steps.0 in record { end = r.0; written = r.1 }

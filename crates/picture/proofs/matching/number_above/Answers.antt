@@ -1,6 +1,5 @@
 use mathlib.Core.Path.{sym}
-use native.Mathlib.Omega.{arith}
-use Rattle.picture.proofs.NumberAbove.{number-unread, number-none, number_small, number-found}
+use Rattle.picture.proofs.NumberAbove.{number-unread, number-none, number-found}
 use Rattle.picture.proofs.matching.number_above.Goals as goal
 
 pub returns-in_err-i : goal.returns-in_err-i
@@ -8,10 +7,6 @@ returns-in_err-i c = rw c.from_residual.ensures (number-unread c.args.text.now c
 
 pub returns-then-not-rises : goal.returns-then-not-rises
 returns-then-not-rises c = number-none c.args.text.now c.args.at _ _ c.requires.1 c.in_ok-i.ensures.1 (sym c.if-not-rises.ensures)
-
-pub width-requires : goal.width-requires
-width-requires c = let small = number_small c.args.text.now c.args.at _ _ c.requires.1 c.in_ok-i.ensures.1 (sym c.if-not-rises.ensures) in
-    omega (arith, c.requires.1)
 
 pub returns : goal.returns
 returns c = number-found c.args.text.now c.args.at _ _ c.requires.1 c.in_ok-i.ensures.1 (sym c.if-not-rises.ensures) c.requires.0

@@ -1,10 +1,7 @@
-use mathlib.Core.Path.{refl, sym, ◌∙◌}
-use borrow.Author.Tests.{lt-ltb, le-ltb}
+use mathlib.Core.Path.{sym, ◌∙◌}
+use borrow.Author.Tests.{lt-ltb}
 use Rattle.picture.proofs.Opening.{other-line, name-room, line-here}
 use Rattle.picture.proofs.matching.opens_node.Goals as goal
-
-pub returns-then-k-ge32 : goal.returns-then-k-ge32
-returns-then-k-ge32 c = rw (le-ltb _ _ c.if-k-ge32.true) refl
 
 pub returns-then-not-names : goal.returns-then-not-names
 returns-then-not-names c = rw (lt-ltb _ _ c.if-k-ge32.false)

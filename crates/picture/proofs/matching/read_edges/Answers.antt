@@ -1,12 +1,8 @@
-use borrow.Author.Rules.{rules}
 use Rattle.picture.proofs.EdgeTable.{edges_none, edges-end, edges-stop, edges-next}
 use Rattle.picture.proofs.matching.read_edges.Goals as goal
 
 pub loop-a-init : goal.loop-a-init
 loop-a-init c = search edges_none
-
-pub read_row-requires : goal.read_row-requires
-read_row-requires c = (search rules, search rules, search rules)
 
 pub returns-in_err-row : goal.returns-in_err-row
 returns-in_err-row c =

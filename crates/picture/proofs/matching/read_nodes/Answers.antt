@@ -1,14 +1,11 @@
 use mathlib.Core.Path.{refl}
 use borrow.Author.Rules.{rules}
-use Rattle.picture.proofs.NodeLoop.{nodes-none, nodes-end, node-named, node-byte, node-less}
-use Rattle.picture.proofs.NodeLoop.{node-opened, node-stops, node-again, node-next}
+use Rattle.picture.proofs.NodeLoop.{nodes-none, nodes-end}
+use Rattle.picture.proofs.NodeLoop.{node-stops, node-again, node-next}
 use Rattle.picture.proofs.matching.read_nodes.Goals as goal
 
 pub loop-seen-init : goal.loop-seen-init
 loop-seen-init c = (refl, search nodes-none)
-
-pub read_node-requires : goal.read_node-requires
-read_node-requires c = (search rules, search node-named, search node-opened)
 
 pub returns-in_err-label : goal.returns-in_err-label
 returns-in_err-label c =
@@ -16,12 +13,6 @@ returns-in_err-label c =
 
 pub returns-then-meet-ne0 : goal.returns-then-meet-ne0
 returns-then-meet-ne0 c = search (node-again, c.in_ok-label.ensures)
-
-pub overflow_cast-k : goal.overflow_cast-k
-overflow_cast-k c = search node-byte
-
-pub loop-seen-smaller : goal.loop-seen-smaller
-loop-seen-smaller c = search node-less
 
 pub loop-seen-preserved : goal.loop-seen-preserved
 loop-seen-preserved c = (search rules, search (node-next, c.in_ok-label.ensures))

@@ -1,8 +1,7 @@
 use mathlib.Core.Path.{sym, ◌∙◌}
-use native.Mathlib.Omega.{arith}
 use borrow.Author.Rules.{rules}
-use Rattle.picture.proofs.Candidates.{text-found, first-refused, first-long, nodes-refused, nodes-inside, nodes-some}
-use Rattle.picture.proofs.Candidates.{gaps-refused, machines-refused, edges-refused, edges-inside, end_refused}
+use Rattle.picture.proofs.Candidates.{text-found, first-refused, first-long, nodes-refused, nodes-some}
+use Rattle.picture.proofs.Candidates.{gaps-refused, machines-refused, edges-refused, end_refused}
 use Rattle.picture.proofs.matching.read_text.Goals as goal
 
 pub returns-then-not-stands : goal.returns-then-not-stands
@@ -21,16 +20,9 @@ returns-in_err-machines c =
 pub returns-then-machines-nodes : goal.returns-then-machines-nodes
 returns-then-machines-nodes c = machines-refused c.in_ok-nodes.ensures c.in_ok-machines.ensures c.if-machines-nodes.true
 
-pub read_edges-requires : goal.read_edges-requires
-read_edges-requires c = let nodes = c.in_ok-nodes.ensures in
-    (nodes-inside nodes, nodes.count, omega (arith, nodes.count, c.requires.1))
-
 pub returns-in_err-end : goal.returns-in_err-end
 returns-in_err-end c =
     rw c.from_residual-in_err-end.ensures (edges-refused c.in_ok-nodes.ensures c.in_err-end.ensures)
-
-pub ends-requires : goal.ends-requires
-ends-requires c = search (edges-inside, c.in_ok-nodes.ensures, c.in_ok-end.ensures)
 
 pub returns-then-not-ends : goal.returns-then-not-ends
 returns-then-not-ends c = search (end_refused, c.in_ok-nodes.ensures, c.in_ok-end.ensures)

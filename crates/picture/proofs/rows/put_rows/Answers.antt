@@ -14,8 +14,5 @@ loop-a-preserved g c = let put = c.put-end in
     let more = c.loop-a-test.true in
     rows_more _ _ _ _ c.requires.1 c.loop-a.invariant more put.auto.out (put.ensures.end, put.ensures.written)
 
-pub shape_of-out : goal.shape_of-out
-shape_of-out g c = c.loop-a.invariant.pieces.size
-
 pub returns : goal.returns
 returns g c = let r = rows_end _ _ _ _ c.loop-a.invariant c.loop-a-test.false in record { end = r.0; written = r.1 }

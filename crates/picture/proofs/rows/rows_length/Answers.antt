@@ -1,13 +1,8 @@
-use native.Mathlib.Omega.{arith}
 use Rattle.picture.proofs.RowLoops.{rows-counted-none, rows-counted-next, rows-counted}
 use Rattle.picture.proofs.rows.rows_length.Goals as goal
 
 pub loop-a-init : goal.loop-a-init
 loop-a-init g c = rows-counted-none _ _
-
-pub overflow_add-r : goal.overflow_add-r
-overflow_add-r g c = let u = c.loop-a.invariant in
-    omega (arith, u.short, u.pieces.inside, c.requires, c.length-r.ensures.short)
 
 pub loop-a-preserved : goal.loop-a-preserved
 loop-a-preserved g c = let len = c.length-r.ensures in

@@ -1,9 +1,5 @@
-use mathlib.Core.Path.{◌≡◌}
-use Rattle.plan.proofs.EachLoop.{asked-none, asked-member, asked-next, asked-fails, asked-end}
+use Rattle.plan.proofs.EachLoop.{asked-member, asked-next, asked-fails, asked-end}
 use Rattle.plan.proofs.each.all_of.Goals as goal
-
-pub loop-i-init : goal.loop-i-init
-loop-i-init g c = let e : c.into_iter-i-iterator.result.rest ≡ c.args.set = search in rw e (search asked-none)
 
 pub test-requires : goal.test-requires
 test-requires g c = c.requires c.in-Some.i (asked-member c.loop-i.invariant c.in-Some.ensures.steps)

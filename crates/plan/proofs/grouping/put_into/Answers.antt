@@ -1,11 +1,8 @@
 use Prim.Native.Nat.{◌<◌}
-use mathlib.Core.Path.{◌≡◌, sym, ◌∙◌}
+use mathlib.Core.Path.{◌∙◌}
 use native.Mathlib.Omega.{arith}
-use Rattle.plan.proofs.TargetLoops.{put-none, put-fits, put_next, put-end}
+use Rattle.plan.proofs.TargetLoops.{put-fits, put_next, put-end}
 use Rattle.plan.proofs.grouping.put_into.Goals as goal
-
-pub loop-j-init : goal.loop-j-init
-loop-j-init c = let e : c.into_iter-j-iterator.result.rest ≡ c.args.machines = search in rw e (search put-none)
 
 pub bounds-into-a : goal.bounds-into-a
 bounds-into-a c = let number = c.from-a.ensures ∙ c.group_of-own.ensures in
@@ -20,9 +17,6 @@ bounds-into-a-in-loop-j c = let number = c.from-a.ensures ∙ c.group_of-own.ens
 pub loop-j-preserved : goal.loop-j-preserved
 loop-j-preserved c = let number = c.from-a.ensures ∙ c.group_of-own.ensures in
     search (put_next, c.in-Some.ensures, number)
-
-pub shape_of-into : goal.shape_of-into
-shape_of-into c = c.loop-j.invariant.long ∙ sym c.requires.0
 
 pub returns : goal.returns
 returns c = search (put-end, c.in-None.ensures)

@@ -1,4 +1,4 @@
-use Rattle.plan.proofs.NumbersUsed.{used-none, used-next, used-end}
+use Rattle.plan.proofs.NumbersUsed.{used-none, used-next}
 use Rattle.plan.proofs.reading.used.Goals as goal
 
 pub loop-i-init : goal.loop-i-init
@@ -6,6 +6,3 @@ loop-i-init c = used-none _
 
 pub loop-i-preserved : goal.loop-i-preserved
 loop-i-preserved c = search used-next
-
-pub returns : goal.returns
-returns c = search used-end

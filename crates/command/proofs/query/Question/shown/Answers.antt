@@ -1,9 +1,6 @@
 use mathlib.Core.Path.{refl}
-use Rattle.command.proofs.Placing.{placed-known, kept-placed, kept-shows}
+use Rattle.command.proofs.Placing.{kept-placed, kept-shows}
 use Rattle.command.proofs.query.Question.shown.Goals as goal
-
-pub digits-requires : goal.digits-requires
-digits-requires c = (c.requires.1.long, placed-known c.requires.1.placed)
 
 pub returns : goal.returns
 returns c = (
