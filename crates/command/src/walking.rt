@@ -3,6 +3,7 @@ ghost use Rattle.std.specs.Prelude.{◌≡◌, length, min};
 ghost use Rattle.common.specs.Reply.{given, output_after};
 ghost use Rattle.plan.specs.Planning.{length_reply, plan_reply, scratch_after};
 ghost use Rattle.command.specs.Walk.{obey_reply, turn_reply};
+ghost use Rattle.command.specs.Says.{move_made};
 ghost use Rattle.command.specs.Walking.{plan_front, start_reply, start_says, turn_told, turn_leaves, turn_says};
 
 use crate::acting::apply;
@@ -26,6 +27,18 @@ pub struct Started {
 pub struct Obeyed {
     pub command: Command,
     pub made: Option<Move>,
+}
+
+impl Obeyed {
+    // The number of the move that it was, 255 for none.
+    pub fn number(self) -> u8
+        ensures { result ≡ move_made self.made }
+    {
+        match self.made {
+            Some(v) => v.0,
+            None => 255,
+        }
+    }
 }
 
 // What a turn came to: a command that was obeyed, or nothing where all is done; or the refusal.

@@ -1,14 +1,10 @@
 // Prints a sheet in plain words and numbers: a line for each machine and each move and one that counts them, or its refusal.
 #![tactic(auto)]
 
-ghost use Rattle.std.specs.Prelude.{ℕ, ◌≤◌, ◌<◌, length};
 ghost use Rattle.std.specs.Counts.{IsPrefixLen};
-ghost use Rattle.sheet.specs.Model.{Model};
-ghost use Rattle.sheet.specs.Kept.Indexed.{Indexed, Listed};
 
 use sheet::bits::has_mode;
-use sheet::guard::{Guard, Guards};
-use sheet::index::{Machine, Moves, Sheet};
+use sheet::index::{Machine, Move, Sheet};
 use sheet::refusal::{Cause, Refusal};
 use std::io::Read;
 use std::rt::Files;
@@ -29,13 +25,24 @@ impl fmt::Display for Modes {
     }
 }
 
-// What a move needs, by its body, each need behind a comma.
+// A count that an index holds, as a byte.
+fn byte(n: usize) -> u8 {
+    (n % 256) as u8
+}
+
+// What a move of a sheet needs, by the index, each need behind a comma.
 #[derive(Clone, Copy)]
-struct Needs<'a>(&'a [u8]);
+struct Needs<'a> {
+    file: &'a [u8],
+    sheet: &'a Sheet,
+    v: Move,
+}
 
 impl fmt::Display for Needs<'_> {
     fn fmt<W: fmt::Write>(&self, f: &mut fmt::Formatter<W>) -> fmt::Result {
-        for Guard { machine, mask } in Guards::of(self.0) {
+        for n in 0..self.sheet.guard_count(self.file, self.v) {
+            let machine = self.sheet.guard_machine(self.file, self.v, byte(n));
+            let mask = self.sheet.guard_mask(self.file, self.v, byte(n));
             write!(f, ", needs machine {} in{}", machine.0, Modes(mask))?;
         }
         Ok(())
@@ -57,22 +64,23 @@ impl fmt::Display for Counted<'_> {
 }
 
 // The product of the mode counts, which is how many states there are, tags aside; none where it is 2^64 or more.
-fn product(modes: &[u8]) -> Option<u64> {
-    modes
-        .iter()
-        .try_fold(1u64, |total, &n| total.checked_mul(u64::from(n)))
+fn product(sheet: &Sheet) -> Option<u64> {
+    (0..sheet.machines).try_fold(1u64, |total, m| {
+        total.checked_mul(u64::from(sheet.mode_count(Machine(byte(m)))))
+    })
 }
 
 // The mode counts, as a product.
 #[derive(Clone, Copy)]
-struct Factors<'a>(&'a [u8]);
+struct Factors<'a>(&'a Sheet);
 
 impl fmt::Display for Factors<'_> {
     fn fmt<W: fmt::Write>(&self, f: &mut fmt::Formatter<W>) -> fmt::Result {
-        for (m, n) in self.0.iter().enumerate() {
+        for m in 0..self.0.machines {
             if 0 < m {
                 write!(f, " x ")?;
             }
+            let n = self.0.mode_count(Machine(byte(m)));
             write!(f, "{n}")?;
         }
         Ok(())
@@ -81,7 +89,7 @@ impl fmt::Display for Factors<'_> {
 
 // How many states there are, by the mode counts; as a product where they are 2^64 or more.
 #[derive(Clone, Copy)]
-struct States<'a>(&'a [u8]);
+struct States<'a>(&'a Sheet);
 
 impl fmt::Display for States<'_> {
     fn fmt<W: fmt::Write>(&self, f: &mut fmt::Formatter<W>) -> fmt::Result {
@@ -131,67 +139,58 @@ pub fn refusal_in_words(rt: &impl Print, refusal: Refusal) -> io::Result<()> {
 }
 
 // A line for each machine: its number, modes and live modes.
-fn machine_lines(rt: &impl Print, modes: &[u8], live: &[u8]) -> io::Result<()> {
-    for (m, (n, &mask)) in modes.iter().zip(live).enumerate() {
-        println!(rt; "machine {m}: modes {n}, live{}", Modes(mask))?;
+fn machine_lines(rt: &impl Print, sheet: &Sheet) -> io::Result<()> {
+    for m in 0..sheet.machines {
+        let machine = Machine(byte(m));
+        let n = sheet.mode_count(machine);
+        println!(rt;
+            "machine {m}: modes {n}, live{}",
+            Modes(sheet.live_modes(machine))
+        )?;
     }
     Ok(())
 }
 
 // The line of a move: its number, machine, modes, command and needs.
-fn move_line(rt: &impl Print, v: usize, body: &[u8]) -> io::Result<()>
-    requires { 3 < length body.now }
-{
+fn move_line(rt: &impl Print, file: &[u8], sheet: &Sheet, v: Move) -> io::Result<()> {
     println!(rt;
-        "move {v}: machine {} from {} to {}, command {}{}",
-        body[0],
-        body[1],
-        body[2],
-        body[3],
-        Needs(body)
+        "move {}: machine {} from {} to {}, command {}{}",
+        v.0,
+        sheet.move_machine(file, v).0,
+        sheet.move_from(file, v),
+        sheet.move_to(file, v),
+        sheet.move_command(file, v),
+        Needs { file, sheet, v }
     )
 }
 
 // A line for each move.
-fn move_lines(rt: &impl Print, moves: Moves) -> io::Result<()>
-    requires { (m : Model) × Listed m moves.file.now moves.places.now }
-{
-    for v in 0..moves.len() {
-        move_line(rt, v, moves.body(v))?;
+fn move_lines(rt: &impl Print, file: &[u8], sheet: &Sheet) -> io::Result<()> {
+    for v in 0..sheet.moves {
+        move_line(rt, file, sheet, Move(byte(v)))?;
     }
     Ok(())
 }
 
-// The lines of a sheet that was read; the last counts its machines, moves and states.
-fn sheet_lines(rt: &impl Print, file: &[u8], sheet: Sheet) -> io::Result<()>
-    requires counts { (sheet.machines ≤ 32) × (sheet.moves ≤ 250) }
-    requires indexed { Indexed file.now sheet }
-{
-    let Sheet {
-        machines,
-        moves,
-        ..
-    } = sheet;
-    let modes = &sheet.modes[..machines];
-    let live = &sheet.live[..machines];
-    let places = &sheet.places[..moves];
-    machine_lines(rt, modes, live)?;
-    move_lines(rt, Moves { file, places })?;
+// The lines of a sheet that was read, by the answers of its index; the last counts its machines, moves and states.
+fn sheet_lines(rt: &impl Print, file: &[u8], sheet: &Sheet) -> io::Result<()> {
+    machine_lines(rt, sheet)?;
+    move_lines(rt, file, sheet)?;
     let machines = Counted {
-        n: machines as u64,
+        n: sheet.machines as u64,
         word: "machine",
     };
     let moves = Counted {
-        n: moves as u64,
+        n: sheet.moves as u64,
         word: "move",
     };
-    println!(rt; "{machines}, {moves}, {}", States(modes))
+    println!(rt; "{machines}, {moves}, {}", States(sheet))
 }
 
 // The sheet that a file is.
 pub fn print_sheet(rt: &impl Print, file: &[u8]) -> io::Result<()> {
     match sheet::scan::read(file) {
-        Ok(sheet) => sheet_lines(rt, file, sheet),
+        Ok(sheet) => sheet_lines(rt, file, &sheet),
         Err(refusal) => refusal_in_words(rt, refusal),
     }
 }

@@ -9,8 +9,8 @@ use std::rt::Files;
 
 // A command that was sent, and the move that it was, 255 for none.
 fn sent_line(rt: &impl Print, obeyed: Obeyed) -> io::Result<()> {
-    let Obeyed { command, made } = obeyed;
-    let v = made.map_or(255, |v| v.0);
+    let command = obeyed.command;
+    let v = obeyed.number();
     println!(rt; "{} {} {v}", command.machine.0, command.byte)
 }
 
