@@ -55,10 +55,9 @@ pub record SetsUpto (q : Question) (masks members : List ℕ) (among : ℕ) (r :
   pub fits : rest < 2 ^ 64
   pub long : length r ≡ 32
   pub inside : (k : ℕ) → bit rest k ≡ true → bit among k ≡ true
-  pub done : (m : Model) (goal : Masks)
-      → Kept m q.plan.now q.state.now q.facts.now q.zeros.now q.starts.now
-      → Allows m goal masks → GroupsOnly m q.plan.now among → MemberSets (groups_in m q.plan.now) members
-      → (k : ℕ) → bit among k ≡ true → bit rest k ≡ false → AllowedSet m q.plan.now goal k (get_or r k 0)
+  pub done : (m : Model) (plan state starts : List ℕ) (goal : Masks) → Kept m plan state q.facts.now q.zeros.now starts
+      → Allows m goal masks → GroupsOnly m plan among → MemberSets (groups_in m plan) members
+      → (k : ℕ) → bit among k ≡ true → bit rest k ≡ false → AllowedSet m plan goal k (get_or r k 0)
 
 module _ {q : Question} {masks members : List ℕ} {among : ℕ} where
   pub sets-none : {r : List ℕ} → length r ≡ 32 → among < 2 ^ 64 → SetsUpto q masks members among r among
@@ -67,7 +66,7 @@ module _ {q : Question} {masks members : List ℕ} {among : ℕ} where
         fits = fits;
         long = long;
         inside = λ k t. t;
-        done = λ m goal kept allows only sets k t f. absurd (true-false t f);
+        done = λ m plan state starts goal kept allows only sets k t f. absurd (true-false t f);
       }
 
   module _ {r : List ℕ} {rest k : ℕ} (u : SetsUpto q masks members among r rest) (z : rest ≡ 0 → ⊥)
@@ -75,15 +74,15 @@ module _ {q : Question} {masks members : List ℕ} {among : ℕ} where
     chosen : bit among k ≡ true
     chosen = u.inside k (rw e (least-member u.fits z))
 
-    module _ {m : Model} (kept : Kept m q.plan.now q.state.now q.facts.now q.zeros.now q.starts.now)
-        (only : GroupsOnly m q.plan.now among) where
-      there : k < group_count (groups_in m q.plan.now)
+    module _ {m : Model} {plan state starts : List ℕ} (kept : Kept m plan state q.facts.now q.zeros.now starts)
+        (only : GroupsOnly m plan among) where
+      there : k < group_count (groups_in m plan)
       there = only k chosen
 
       pub sets-place : k < 32
       sets-place = omega (arith, there, placed-count kept.placed)
 
-      pub sets-size : {n : ℕ} → n ≡ size_in q.facts.now k → n ≡ size m (groups_in m q.plan.now) k
+      pub sets-size : {n : ℕ} → n ≡ size_in q.facts.now k → n ≡ size m (groups_in m plan) k
       sets-size en = en ∙ kept.sizes k there
 
     pub sets-next : {n x v : ℕ} {weights : List ℕ} → length masks ≡ 32 → n ≡ size_in q.facts.now k → weights ≡ weights_in q.facts.now
@@ -95,25 +94,24 @@ module _ {q : Question} {masks members : List ℕ} {among : ℕ} where
           fits = taken-fits u.fits z e ev;
           long = length-set r k x ∙ u.long;
           inside = λ j y. u.inside j (less-from rest (alone k) j (rw ev at y));
-          done = λ m goal kept allows only sets j t l.
+          done = λ m plan state starts goal kept allows only sets j t l.
               by_cases (eqb k j)
               (λ y.
               let of = group-machines sets (sets-place kept only) in
               let held = kept.held in
-              let within = f m (groups_in m q.plan.now) k (rw ew held) (allows-masks allows held.weighed.valid long) of
+              let within = f m (groups_in m plan) k (rw ew held) (allows-masks allows held.weighed.valid long) of
               (sets-size kept only en) in
               rw (← eqb-true k j y, get_or-set_same r k x 0 (omega (arith, u.long, sets-place kept only)))
               (allows-set allows held within))
               (λ y.
               let other : bit rest j ≡ false = rw (ev, bit-less, bit-alone, y, and-true) at l in
               rw (get_or-set_other r k j x 0 (λ q. eqb-false k j y (sym q)))
-              (u.done m goal kept allows only sets j t other));
+              (u.done m plan state starts goal kept allows only sets j t other));
         }
 
   pub sets_end : {r : List ℕ} {rest : ℕ} → SetsUpto q masks members among r rest → rest ≡ 0
-      → (m : Model) (goal : Masks)
-      → Kept m q.plan.now q.state.now q.facts.now q.zeros.now q.starts.now
-      → Allows m goal masks → GroupsOnly m q.plan.now among → MemberSets (groups_in m q.plan.now) members
-      → AllowedSets m q.plan.now goal among r
-  sets_end u z m goal kept allows only sets =
-      record { each = λ k t. u.done m goal kept allows only sets k t (rw z (bit-none k)) }
+      → (m : Model) (plan state starts : List ℕ) (goal : Masks) → Kept m plan state q.facts.now q.zeros.now starts
+      → Allows m goal masks → GroupsOnly m plan among → MemberSets (groups_in m plan) members
+      → AllowedSets m plan goal among r
+  sets_end u z m plan state starts goal kept allows only sets =
+      record { each = λ k t. u.done m plan state starts goal kept allows only sets k t (rw z (bit-none k)) }

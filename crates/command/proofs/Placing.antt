@@ -87,6 +87,18 @@ module _ {m : Model} {plan state facts zeros starts : List ℕ} (kept : Kept m p
         numbered = e ∙ ap (numbers_in facts) (placed-machines kept.placed) ∙ kept.placed.numbered;
       }
 
+  -- if the first n numbers are those of the groups, the state is for n machines
+  pub kept-machines : {n : ℕ} → n ≤ 32 → numbers_in facts n ≡ groups_in m plan → machines_in state ≡ n
+  unfolding numbers_in
+  kept-machines {n} few e =
+      omega (
+        arith,
+        part_length facts 0 n (omega (arith, kept.long)),
+        ap length e,
+        placed-groups kept.placed,
+        placed-machines kept.placed,
+      )
+
   -- what judging moves by the plan reads
   pub kept-shows : {numbers weights sizes : List ℕ} → numbers ≡ groups_in m plan → weights ≡ weights_in facts → sizes ≡ sizes_in facts
       → Shows m plan numbers weights sizes starts zeros

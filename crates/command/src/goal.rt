@@ -102,14 +102,14 @@ pub fn allowed_sets(
     members: &[u64],
     among: u64,
 ) -> [u64; Sheet::MACHINES]
-    requires { ((m : Model) × (goal : Masks)
-        × Kept m question.now.plan.now question.now.state.now question.now.facts.now question.now.zeros.now question.now.starts.now
-        × Allows m goal masks.now × GroupsOnly m question.now.plan.now among
-        × MemberSets (groups_in m question.now.plan.now) members.now) × (length masks.now ≡ 32) × (length members.now ≡ 32) }
-    ensures { (m : Model) (goal : Masks)
-        → Kept m question.now.plan.now question.now.state.now question.now.facts.now question.now.zeros.now question.now.starts.now
-        → Allows m goal masks.now → GroupsOnly m question.now.plan.now among
-        → MemberSets (groups_in m question.now.plan.now) members.now → AllowedSets m question.now.plan.now goal among result }
+    requires { ((m : Model) × (plan : List ℕ) × (state : List ℕ) × (starts : List ℕ) × (goal : Masks)
+        × Kept m plan state question.now.facts.now question.now.zeros.now starts
+        × Allows m goal masks.now × GroupsOnly m plan among
+        × MemberSets (groups_in m plan) members.now) × (length masks.now ≡ 32) × (length members.now ≡ 32) }
+    ensures { (m : Model) (plan state starts : List ℕ) (goal : Masks)
+        → Kept m plan state question.now.facts.now question.now.zeros.now starts
+        → Allows m goal masks.now → GroupsOnly m plan among
+        → MemberSets (groups_in m plan) members.now → AllowedSets m plan goal among result }
 {
     let mut r = [0u64; Sheet::MACHINES];
     for k in sets::each(among) {

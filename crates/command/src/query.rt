@@ -1,5 +1,5 @@
 // A question: what to do in a state, under a plan. The facts of its machines and groups are in one array of bytes.
-ghost use Rattle.std.specs.Prelude.{◌≡◌, ℕ, ◌≤◌, ◌<◌, length, get_or};
+ghost use Rattle.std.specs.Prelude.{◌≡◌, List, ℕ, ◌≤◌, ◌<◌, length, get_or};
 ghost use Rattle.sheet.specs.Model.{Model};
 ghost use Rattle.plan.specs.Groups.{group_count};
 ghost use Rattle.plan.specs.Reading.{groups_in, table_of_group};
@@ -105,10 +105,12 @@ impl<'a> Question<'a> {
 
     // Its plan, shown, with what is kept of the groups.
     pub fn shown(&self) -> Shown<'a>
-        requires { (m : Model)
-            × Kept m self.now.plan.now self.now.state.now self.now.facts.now self.now.zeros.now self.now.starts.now }
-        ensures { (result.plan.now ≡ self.now.plan.now) × ((m : Model)
-            → Kept m self.now.plan.now self.now.state.now self.now.facts.now self.now.zeros.now self.now.starts.now
+        requires { (m : Model) × (state : List ℕ)
+            × Kept m self.now.plan.now state self.now.facts.now self.now.zeros.now self.now.starts.now
+            × (machines_in state ≡ machines_in self.now.state.now) }
+        ensures { (result.plan.now ≡ self.now.plan.now) × ((m : Model) (state : List ℕ)
+            → Kept m self.now.plan.now state self.now.facts.now self.now.zeros.now self.now.starts.now
+            → machines_in state ≡ machines_in self.now.state.now
             → Shows m result.plan.now result.digits.numbers.now result.digits.weights.now result.sizes.now
             result.starts.now result.digits.zeros.now) }
     {
@@ -122,11 +124,11 @@ impl<'a> Question<'a> {
 
     // The table of a group.
     pub fn table_of(&self, group: Group) -> &'a [u8]
-        requires { (m : Model)
-            × Kept m self.now.plan.now self.now.state.now self.now.facts.now self.now.zeros.now self.now.starts.now
+        requires { (m : Model) × (state : List ℕ) × (zeros : List ℕ)
+            × Kept m self.now.plan.now state self.now.facts.now zeros self.now.starts.now
             × (group.0 < group_count (groups_in m self.now.plan.now)) }
-        ensures { (m : Model)
-            → Kept m self.now.plan.now self.now.state.now self.now.facts.now self.now.zeros.now self.now.starts.now
+        ensures { (m : Model) (state zeros : List ℕ)
+            → Kept m self.now.plan.now state self.now.facts.now zeros self.now.starts.now
             → group.0 < group_count (groups_in m self.now.plan.now)
             → result.now ≡ table_of_group m (groups_in m self.now.plan.now) self.now.plan.now group.0 }
     {

@@ -13,8 +13,7 @@ fits : (c : After-upstream_of-above) → c.args.left < 2 ^ 64
 fits c = omega arith
 
 sought : (c : After-allowed_sets-wanted) → let a = c.args in
-    let q = a.question.now in
-    Sought q.plan.now q.state.now q.facts.now q.zeros.now q.starts.now a.named.now a.machines.now a.masks.now
+    Sought a.question.now.facts.now a.question.now.zeros.now a.named.now a.machines.now a.masks.now
     c.allowed_sets-wanted.result a.left c.upstream_of-above.result c.join.result
 sought c = record {
   fits = omega arith;
@@ -28,6 +27,9 @@ allowed_sets-wanted-requires c = let p = c.requires in
     let q = p.0.2 in (
       (
         p.0.0,
+        _,
+        _,
+        _,
         p.0.1,
         q.kept,
         q.allows,
@@ -46,6 +48,7 @@ pub cover-requires : goal.cover-requires
 cover-requires c = let p = c.requires in (
   (
     p.0.0,
+    _,
     p.0.1,
     pursued-uncertain p.0.2 (sought (goal.at.cover-requires c).After-allowed_sets-wanted) c.numbers.ensures c.failed-failed.ensures,
   ),
@@ -70,7 +73,7 @@ fulfil-requires c = let (m, wish, q) = c.requires.0 in
 pub returns : goal.returns
 returns c m wish q = let top = c.highest-k.ensures in
     pursued-replies q (sought (goal.at.returns c).After-allowed_sets-wanted).fits _
-    (c.cover.ensures m wish
+    (c.cover.ensures m _ wish
     (pursued-uncertain q (sought (goal.at.returns c).After-allowed_sets-wanted) c.numbers.ensures c.failed-failed.ensures))
     c.in_ok-cover.was top
     (c.fulfil.ensures m wish q.kept q.listed (pursued-only q (sought (goal.at.returns c).After-allowed_sets-wanted).fits _ top.1)
@@ -80,6 +83,6 @@ pub returns-in_err-cover : goal.returns-in_err-cover
 returns-in_err-cover c m wish q =
     rw (passed-on c.from_residual.ensures.1)
     (sym (refused-unless _
-    (c.cover.ensures m wish
+    (c.cover.ensures m _ wish
     (pursued-uncertain q (sought (goal.at.returns-in_err-cover c).After-allowed_sets-wanted) c.numbers.ensures c.failed-failed.ensures))
     c.in_err-cover.was _))

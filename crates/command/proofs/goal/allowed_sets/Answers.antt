@@ -11,11 +11,11 @@ bounds-members-k c = rw c.requires.2 (search (sets-place, c.in-Some.ensures))
 
 pub within-requires : goal.within-requires
 within-requires c =
-    let (m, wish, kept, allows, only, sets) = c.requires.0 in
+    let (m, plan, state, starts, wish, kept, allows, only, sets) = c.requires.0 in
     let t = c.in-Some.ensures.steps in
     let u = c.loop-k.invariant in (
       m,
-      groups_in m c.args.question.now.plan.now,
+      groups_in m plan,
       c.in-Some.k,
       rw c.weights.ensures kept.held,
       allows-masks allows kept.held.weighed.valid c.requires.1,
