@@ -66,16 +66,14 @@ fn outside(next: &[u64], group: u64) -> u64
     sets::minus(search::union_of(next, group), group)
 }
 
-// A set for each of n machines, by what gives it.
-fn each_of<F: Fn(usize) -> u64>(n: usize, f: F) -> [u64; sets::NUMBERS]
-    requires { (n ≤ 64) × ((i : ℕ) → i < n → F.pre f i) }
-    ensures { (i : ℕ) → i < n → F.post f i (get_or result i 0) }
+// Writes a set for each of n machines, by what gives it. Into a lent array, since one that is handed out is copied.
+fn put_each<F: Fn(usize) -> u64>(n: usize, f: F, r: &mut [u64])
+    requires { (n ≤ 64) × (length r.old ≡ 64) × ((i : ℕ) → i < n → F.pre f i) }
+    ensures { (i : ℕ) → i < n → F.post f i (get_or r.new i 0) }
 {
-    let mut r = [0u64; sets::NUMBERS];
     for i in 0..n {
         r[i] = f(i);
     }
-    r
 }
 
 // Of the groups that are ready for a number, the one with the smallest machine; empty if there is none.
@@ -116,9 +114,12 @@ fn by_needs(next: &[u64], n: usize) -> [u8; sets::NUMBERS]
     ensures { (m : Model) → Holds (need_graph m) next.now → n ≡ machine_count m
         → take (machine_count m) result ≡ groups_of m }
 {
-    let reach = each_of(n, |i| search::reach(next, i as u8));
-    let groups = each_of(n, |i| mutual(&reach, Machine(i as u8)));
-    let waits = each_of(n, |i| outside(next, groups[i]));
+    let mut reach = [0u64; sets::NUMBERS];
+    let mut groups = [0u64; sets::NUMBERS];
+    let mut waits = [0u64; sets::NUMBERS];
+    put_each(n, |i| search::reach(next, i as u8), &mut reach);
+    put_each(n, |i| mutual(&reach, Machine(i as u8)), &mut groups);
+    put_each(n, |i| outside(next, groups[i]), &mut waits);
     number(&groups, &waits, n)
 }
 

@@ -1,14 +1,13 @@
 -- What `writing` stores, one byte after the other: two bytes, a record's header, a copy; and a record behind its header.
 -- Assumes nothing.
-use Prim.Native.Nat.{ℕ, ◌+◌, ◌-◌, ◌/◌, ◌%◌, ◌≤◌}
+use Prim.Native.Nat.{ℕ, ◌+◌, ◌/◌, ◌%◌, ◌≤◌, ◌<◌, zero-le}
 use mathlib.Core.Path.{◌≡◌, refl, ◌∙◌}
 use mathlib.Core.List.{List, [], ◌∷◌, ◌++◌, append_assoc}
+use native.Mathlib.Nat.{le_antisymm}
 use native.Mathlib.Numerals.{add-one}
 use native.Mathlib.Omega.{arith}
-use borrow.Rule.Slice.PartMut.{put_mid}
-use Rattle.std.proofs.lemmas.List.{drop-drop}
-use lib.ListN.{length, set, take, length-append}
-use lib.Seq.{sets-eq}
+use lib.ListN.{length, get_or, set, take, length-append, length-set}
+use lib.Seq.{take-length, sets-eq, paste, paste-zero, paste-suc}
 use Rattle.sheet.specs.Record.{two_bytes, record_of}
 use Rattle.sheet.specs.Kept.Written.{written}
 use Rattle.sheet.proofs.Written.{length-two_bytes}
@@ -43,10 +42,29 @@ record-written s p q body at kind next first second e room =
     ) in
     second ∙ rw first (written-more at header s room body (omega arith))
 
--- bytes copied to their part of a list
-pub copied : (at : ℕ) (s : List ℕ) {bytes new : List ℕ} → new ≡ bytes
-    → put_mid at (at + length bytes - at) s new ≡ written at bytes s
-unfolding written
-copied at s {bytes} e =
-    let n : at + length bytes - at ≡ length bytes = omega arith in
-    rw (e, n, drop-drop (length bytes) at s) refl
+-- The first i of some numbers, copied to a place
+
+pub record CopiedTo (s : List ℕ) (at : ℕ) (numbers : List ℕ) (i : ℕ) (now : List ℕ) : Type 0 where
+  pub inside : i ≤ length numbers
+  pub size : length now ≡ length s
+  pub copied : now ≡ paste s at numbers i
+
+module _ {s numbers : List ℕ} {at : ℕ} (room : at + length numbers ≤ length s) where
+  pub copied-to-none : CopiedTo s at numbers 0 s
+  copied-to-none = record { inside = zero-le; size = refl; copied = paste-zero s at numbers }
+
+  pub copied-to-next : {i : ℕ} {now : List ℕ} → CopiedTo s at numbers i now → i < length numbers
+      → CopiedTo s at numbers (i + 1) (set now (at + i) (get_or numbers i 0))
+  copied-to-next {i} {now} c l =
+      record {
+        inside = omega arith;
+        size = length-set now _ _ ∙ c.size;
+        copied = rw (c.copied, add-one) (paste-suc s at numbers i 0 (omega arith) l);
+      }
+
+  pub copied-to-end : {i : ℕ} {now : List ℕ} → CopiedTo s at numbers i now → length numbers ≤ i
+      → now ≡ written at numbers s
+  unfolding written
+  copied-to-end {i} c l =
+      let e : i ≡ length numbers = le_antisymm c.inside l in
+      c.copied ∙ rw (e, take-length numbers) (append_assoc (take at s) numbers _)
