@@ -51,30 +51,31 @@ module _ {m : Model} {goal : Masks} {masks : List ℕ} (allows : Allows m goal m
 
 -- the sets so far, and the groups to come
 
-pub record SetsUpto (q : Question) (masks members : List ℕ) (among : ℕ) (r : List ℕ) (rest : ℕ) : Type 0 where
+pub record SetsUpto (q : Question) (plan state starts masks members : List ℕ) (among : ℕ) (r : List ℕ) (rest : ℕ) : Type 0 where
   pub fits : rest < 2 ^ 64
   pub long : length r ≡ 32
   pub inside : (k : ℕ) → bit rest k ≡ true → bit among k ≡ true
-  pub done : (m : Model) (plan state starts : List ℕ) (goal : Masks) → Kept m plan state q.facts.now q.zeros.now starts
+  pub done : (m : Model) (goal : Masks)
+      → Kept m plan state q.facts.now q.zeros.now starts
       → Allows m goal masks → GroupsOnly m plan among → MemberSets (groups_in m plan) members
       → (k : ℕ) → bit among k ≡ true → bit rest k ≡ false → AllowedSet m plan goal k (get_or r k 0)
 
-module _ {q : Question} {masks members : List ℕ} {among : ℕ} where
-  pub sets-none : {r : List ℕ} → length r ≡ 32 → among < 2 ^ 64 → SetsUpto q masks members among r among
+module _ {q : Question} {plan state starts masks members : List ℕ} {among : ℕ} where
+  pub sets-none : {r : List ℕ} → length r ≡ 32 → among < 2 ^ 64 → SetsUpto q plan state starts masks members among r among
   sets-none long fits =
       record {
         fits = fits;
         long = long;
         inside = λ k t. t;
-        done = λ m plan state starts goal kept allows only sets k t f. absurd (true-false t f);
+        done = λ m goal kept allows only sets k t f. absurd (true-false t f);
       }
 
-  module _ {r : List ℕ} {rest k : ℕ} (u : SetsUpto q masks members among r rest) (z : rest ≡ 0 → ⊥)
+  module _ {r : List ℕ} {rest k : ℕ} (u : SetsUpto q plan state starts masks members among r rest) (z : rest ≡ 0 → ⊥)
       (e : k ≡ least rest) where
     chosen : bit among k ≡ true
     chosen = u.inside k (rw e (least-member u.fits z))
 
-    module _ {m : Model} {plan state starts : List ℕ} (kept : Kept m plan state q.facts.now q.zeros.now starts)
+    module _ {m : Model} (kept : Kept m plan state q.facts.now q.zeros.now starts)
         (only : GroupsOnly m plan among) where
       there : k < group_count (groups_in m plan)
       there = only k chosen
@@ -88,13 +89,13 @@ module _ {q : Question} {masks members : List ℕ} {among : ℕ} where
     pub sets-next : {n x v : ℕ} {weights : List ℕ} → length masks ≡ 32 → n ≡ size_in q.facts.now k → weights ≡ weights_in q.facts.now
         → ((m : Model) (groups : Grouping) (j : ℕ) → ModesHeld m groups weights q.zeros.now → MasksOf m masks
         → MachinesOf groups j (get_or members k 0) → n ≡ size m groups j → WithinSet m groups j masks x)
-        → v ≡ less rest (alone k) → SetsUpto q masks members among (set r k x) v
+        → v ≡ less rest (alone k) → SetsUpto q plan state starts masks members among (set r k x) v
     sets-next {n} {x} {v} long en ew f ev =
         record {
           fits = taken-fits u.fits z e ev;
           long = length-set r k x ∙ u.long;
           inside = λ j y. u.inside j (less-from rest (alone k) j (rw ev at y));
-          done = λ m plan state starts goal kept allows only sets j t l.
+          done = λ m goal kept allows only sets j t l.
               by_cases (eqb k j)
               (λ y.
               let of = group-machines sets (sets-place kept only) in
@@ -106,12 +107,13 @@ module _ {q : Question} {masks members : List ℕ} {among : ℕ} where
               (λ y.
               let other : bit rest j ≡ false = rw (ev, bit-less, bit-alone, y, and-true) at l in
               rw (get_or-set_other r k j x 0 (λ q. eqb-false k j y (sym q)))
-              (u.done m plan state starts goal kept allows only sets j t other));
+              (u.done m goal kept allows only sets j t other));
         }
 
-  pub sets_end : {r : List ℕ} {rest : ℕ} → SetsUpto q masks members among r rest → rest ≡ 0
-      → (m : Model) (plan state starts : List ℕ) (goal : Masks) → Kept m plan state q.facts.now q.zeros.now starts
+  pub sets_end : {r : List ℕ} {rest : ℕ} → SetsUpto q plan state starts masks members among r rest → rest ≡ 0
+      → (m : Model) (goal : Masks)
+      → Kept m plan state q.facts.now q.zeros.now starts
       → Allows m goal masks → GroupsOnly m plan among → MemberSets (groups_in m plan) members
       → AllowedSets m plan goal among r
-  sets_end u z m plan state starts goal kept allows only sets =
-      record { each = λ k t. u.done m plan state starts goal kept allows only sets k t (rw z (bit-none k)) }
+  sets_end u z m goal kept allows only sets =
+      record { each = λ k t. u.done m goal kept allows only sets k t (rw z (bit-none k)) }

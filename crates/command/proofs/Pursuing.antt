@@ -32,12 +32,12 @@ use Rattle.command.proofs.Verdicts.{accepted-unless}
 
 -- The groups that a question looks at, as the code finds them: those upstream of the unmet ones, both together, and what the
 -- goal allows of each
-pub record Sought (facts zeros named machines masks wanted : List ℕ) (left above among : ℕ) : Type 0 where
+pub record Sought (plan state facts zeros starts named machines masks wanted : List ℕ) (left above among : ℕ) : Type 0 where
   pub fits : left < 2 ^ 64
   pub up : (m : Model) (plan : List ℕ) (counts : ℕ → Bool) → Valid m → well_shaped m plan ≡ true → NamedBy m plan counts named
       → UpstreamOfSome m plan counts left above
   pub joined : among ≡ union above left
-  pub allowed : (m : Model) (plan state starts : List ℕ) (goal : Masks) → Kept m plan state facts zeros starts
+  pub allowed : (m : Model) (goal : Masks) → Kept m plan state facts zeros starts
       → Allows m goal masks → GroupsOnly m plan among → MemberSets (groups_in m plan) machines
       → AllowedSets m plan goal among wanted
 
@@ -70,10 +70,10 @@ module _ {m : Model} {file plan state : List ℕ} {goal : Masks} {places starts 
     pursued-replies k e a top s =
         s ∙ sym (accepted-unless _ e _ a ∙ highest-left q.kept.placed q.leaves k fits top)
 
-  module _ {wanted : List ℕ} {above among : ℕ} (s : Sought facts zeros named machines masks wanted left above among) where
+  module _ {wanted : List ℕ} {above among : ℕ} (s : Sought plan state facts zeros starts named machines masks wanted left above among) where
     both : AllowedSets m plan goal among wanted
     both =
-        s.allowed m plan state starts goal q.kept q.allows (pursued-among s.fits s.up s.joined) q.members
+        s.allowed m goal q.kept q.allows (pursued-among s.fits s.up s.joined) q.members
 
     pub pursued-left : AllowedSets m plan goal left wanted
     pursued-left = record { each = λ k t. both.each k (rw (s.joined, bit-union) (or_right (bit above k) t)) }

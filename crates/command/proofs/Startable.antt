@@ -67,24 +67,24 @@ module _ (m : Model) (plan state : List ℕ) (k d v : ℕ) where
       none_of false b c d = refl
       none_of true b c d = refl
 
--- what looking up an entry gives: the one toward the target, in any state of these facts, of any goal that allows those modes of the group
-abbrev pub Toward : List ℕ → List ℕ → List ℕ → ℕ → ℕ → ℕ → ℕ → Type 0
-Toward plan facts starts k allowed d v =
-    (m : Model) (state zeros : List ℕ) (goal : Masks) → Kept m plan state facts zeros starts
+-- what looking up an entry gives: the one toward the target, of any goal that allows those modes of the group
+abbrev pub Toward : List ℕ → List ℕ → List ℕ → List ℕ → List ℕ → ℕ → ℕ → ℕ → ℕ → Type 0
+Toward plan state facts zeros starts k allowed d v =
+    (m : Model) (goal : Masks) → Kept m plan state facts zeros starts
     → k < group_count (groups_in m plan) → AllowedSet m plan goal k allowed
     → entry d v ≡ entry_toward m plan state goal k
 
--- what asking for a move's use gives, in any state for as many machines as the question's own: that of the move by the plan
+-- what asking for a move's use gives: that of the move by the plan
 abbrev pub Usable : List ℕ → List ℕ → List ℕ → List ℕ → List ℕ → List ℕ → Bool → Type 0
-Usable plan own facts zeros starts body u =
-    (m : Model) (state : List ℕ) (v : ℕ) → Kept m plan state facts zeros starts → machines_in state ≡ machines_in own
+Usable plan state facts zeros starts body u =
+    (m : Model) (v : ℕ) → Kept m plan state facts zeros starts
     → v < move_count m → move_of body ≡ move_at m v → u ≡ usable_in m plan v
 
 -- An entry is followed, as the code does it
 
 -- what is known once its move is read: it leads toward the target, it is near and its move is listed
 pub record Led (file places plan state facts zeros starts : List ℕ) (k allowed d v w : ℕ) (body numbers : List ℕ) : Type 0 where
-  pub toward : Toward plan facts starts k allowed d v
+  pub toward : Toward plan state facts zeros starts k allowed d v
   pub move : w ≡ v
   pub near : d ≡ 255 → ⊥
   pub listed : w < length places
@@ -149,12 +149,12 @@ module _ {plan state facts zeros starts file places : List ℕ} {k allowed : ℕ
   abbrev followed : Reply Next
   followed = follow_by m plan state (fulfil_below m plan state k) goal k
 
-  module _ {d v : ℕ} (toward : Toward plan facts starts k allowed d v) where
+  module _ {d v : ℕ} (toward : Toward plan state facts zeros starts k allowed d v) where
     refuses : unfit m plan state k (entry d v) ≡ true → refused 15 0 ≡ followed
     unfolding entry_toward
     refuses t =
         sym (Following.follow-unfit m plan state (usable_in m plan) _ goal k
-        (sym (ap (unfit m plan state k) (toward m state zeros goal kept below fits)) ∙ t))
+        (sym (ap (unfit m plan state k) (toward m goal kept below fits)) ∙ t))
 
     pub entry-far : d ≡ 255 → refused 15 0 ≡ followed
     entry-far far = refuses (unfit-far m plan state k d v far)
@@ -200,7 +200,7 @@ module _ {plan state facts zeros starts file places : List ℕ} {k allowed : ℕ
     -- whether it is usable by the plan
     module _ {u : Bool} (usable : Usable plan state facts zeros starts body u) where
       used : u ≡ usable_in m plan w
-      used = usable m state w kept refl (led-present q kept l) (led-move q kept l)
+      used = usable m w kept (led-present q kept l) (led-move q kept l)
 
       unfit-used : unfit m plan state k (entry d v) ≡ not u
       unfit-used = unfit-told q p.stops (sym p.from-here) ∙ rw (p.free, used) refl
@@ -211,7 +211,7 @@ module _ {plan state facts zeros starts file places : List ℕ} {k allowed : ℕ
       entry-fit : u ≡ true → followed ≡ prepare_by m plan state (fulfil_below m plan state k) k (move_at m w)
       unfolding entry_toward
       entry-fit y =
-          let led = q.toward m state zeros goal kept below fits in
+          let led = q.toward m goal kept below fits in
           Following.follow-fit m plan state (usable_in m plan) _ goal k
           (sym (ap (unfit m plan state k) led) ∙ unfit-used ∙ ap not y)
           ∙ sym (ap (λ x. prepare_by m plan state (fulfil_below m plan state k) k (move_at m x.move)) led)

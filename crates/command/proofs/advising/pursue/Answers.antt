@@ -13,13 +13,14 @@ fits : (c : After-upstream_of-above) → c.args.left < 2 ^ 64
 fits c = omega arith
 
 sought : (c : After-allowed_sets-wanted) → let a = c.args in
-    Sought a.question.now.facts.now a.question.now.zeros.now a.named.now a.machines.now a.masks.now
+    let q = a.question.now in
+    Sought q.plan.now q.state.now q.facts.now q.zeros.now q.starts.now a.named.now a.machines.now a.masks.now
     c.allowed_sets-wanted.result a.left c.upstream_of-above.result c.join.result
 sought c = record {
   fits = omega arith;
   up = c.upstream_of-above.ensures;
   joined = c.join.ensures;
-  allowed = c.allowed_sets-wanted.ensures;
+  allowed = λ m. c.allowed_sets-wanted.ensures m _ _ _;
 }
 
 pub allowed_sets-wanted-requires : goal.allowed_sets-wanted-requires

@@ -1,4 +1,5 @@
 use Prim.Native.Nat.{ℕ}
+use mathlib.Core.Path.{refl}
 use native.Mathlib.Omega.{arith}
 use Rattle.command.proofs.Looked.{kept-group, kept_small, kept-few}
 use Rattle.command.proofs.Placing.{kept-held}
@@ -20,7 +21,7 @@ led : {t : ℕ} (c : fulfil-After-numbers-own t) → let a = c.args in let q = a
     Led q.moves.file.now q.moves.places.now q.plan.now q.state.now q.facts.now q.zeros.now q.starts.now a.group.0 a.allowed
     c.toward-cell.result.distance c.toward-cell.result.first c.from-v.result c.body-b.result.now c.numbers-own.result.now
 led c = record {
-  toward = c.toward-cell.ensures;
+  toward = λ n. c.toward-cell.ensures n _ _;
   move = c.from-v.ensures;
   near = c.if-cell.false;
   listed = omega (arith, c.if-len-v.false, c.len.ensures);
@@ -36,11 +37,11 @@ met c = meets-by c.digits.ensures.0 c.digits.ensures.1 c.size_of.ensures.0 c.fir
 
 pub fulfil-returns-then-cell : goal.fulfil-returns-then-cell
 fulfil-returns-then-cell t c m wish kept l below fits =
-    let toward = c.toward-cell.ensures in
     rw c.at.ensures (elim c.then-cell.branch [
-      | fulfil-then-cell-via-then-cell w ↦ entry-far m wish kept l below fits toward w.if-cell.true
+      | fulfil-then-cell-via-then-cell w ↦ entry-far m wish kept l below fits (λ n. c.toward-cell.ensures n _ _) w.if-cell.true
       | fulfil-then-cell-via-else-cell+then-len-v w ↦
-          entry_absent m wish kept l below fits toward c.from-v.ensures (omega (arith, w.if-len-v.true, w.len.ensures))
+          entry_absent m wish kept l below fits (λ n. c.toward-cell.ensures n _ _) c.from-v.ensures
+          (omega (arith, w.if-len-v.true, w.len.ensures))
     ])
 
 pub fulfil-held_up-held-requires : goal.fulfil-held_up-held-requires
@@ -73,7 +74,7 @@ pub fulfil-returns-then-not-usable : goal.fulfil-returns-then-not-usable
 fulfil-returns-then-not-usable t c m wish kept l below fits =
     let q = led (goal.at.fulfil-returns-then-not-usable t c).After-numbers-own in
     let p = passed q c.held_up-held.ensures c.from_now.ensures c.if-not-from_now.false c.from.ensures c.has.ensures c.if-has.false in
-    rw c.at-then-not-usable.ensures (entry-idle m wish kept l below fits p c.usable.ensures c.if-not-usable.true)
+    rw c.at-then-not-usable.ensures (entry-idle m wish kept l below fits p (λ n v k. c.usable.ensures n _ v k refl) c.if-not-usable.true)
 
 pub fulfil-prepare-requires : goal.fulfil-prepare-requires
 fulfil-prepare-requires t c =
@@ -91,7 +92,7 @@ pub fulfil-returns : goal.fulfil-returns
 fulfil-returns t c m wish kept l below fits =
     let q = led (goal.at.fulfil-returns t c).After-numbers-own in
     let p = passed q c.held_up-held.ensures c.from_now.ensures c.if-not-from_now.false c.from.ensures c.has.ensures c.if-has.false in
-    entry-prepares m wish kept l below fits p c.usable.ensures c.if-not-usable.false c.prepare.ensures
+    entry-prepares m wish kept l below fits p (λ n v k. c.usable.ensures n _ v k refl) c.if-not-usable.false c.prepare.ensures
 
 pub prepare-returns-then-waits-eq0 : goal.prepare-returns-then-waits-eq0
 prepare-returns-then-waits-eq0 t c m v kept l there same o = search prepare-sends
